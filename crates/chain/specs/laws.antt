@@ -1,0 +1,11 @@
+pub mod Below
+pub mod All
+pub mod Chain
+pub mod Places
+pub mod Agree
+pub mod First
+pub mod Loops
+pub mod Nth
+pub mod Ranges
+pub mod Steps
+pub mod Fill

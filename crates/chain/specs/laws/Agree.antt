@@ -1,0 +1,35 @@
+-- Two chains beside each other: two `next` that agree on the places visited, and one chain up to an earlier end. Assumes nothing.
+-- two functions that agree on the places visited have one chain
+use Prim.Native.Nat.{ℕ, _≤_, _<_}
+use mathlib.Core.List.{List, _∷_, _++_}
+use mathlib.Core.Path.{_≡_, sym, ap, _∙_}
+use native.Mathlib.Omega.{arith}
+use Rattle.chain.specs.All.{All}
+use Rattle.chain.specs.Chain.{chain}
+use Rattle.chain.specs.laws.Chain.{chain-end, chain-more, chain-ind}
+
+pub chain-agree : (next other : ℕ → ℕ) (end : ℕ) → ((p : ℕ) → p < next p) → ((p : ℕ) → p < other p) → (p : ℕ) → All (λ q. next q ≡ other q) (chain next end p) → chain next end p ≡ chain other end p
+chain-agree next other end grows rises =
+    chain-ind next end grows (λ p. All (λ q. next q ≡ other q) (chain next end p) → chain next end p ≡ chain other end p)
+    (λ p h a. chain-end next end grows p h ∙ sym (chain-end other end rises p h))
+    (λ p h ih a.
+    let b : All (λ q. next q ≡ other q) (p ∷ chain next end (next p)) = rw (chain-more next end grows p h) at a in
+    chain-more next end grows p h ∙ ap (λ (l : List ℕ). p ∷ l) (ih (b .1) ∙ ap (chain other end) (b .0)) ∙ sym (chain-more other end rises p h))
+
+-- the chain up to an earlier end, and what follows: a chain again, from a place at or past the earlier end
+pub record Prefix (next : ℕ → ℕ) (early end p : ℕ) : Type 0 where
+  pub place : ℕ
+  pub past : early ≤ place
+  pub split : chain next end p ≡ chain next early p ++ chain next end place
+
+pub chain-prefix : (next : ℕ → ℕ) (early end : ℕ) → ((p : ℕ) → p < next p) → early ≤ end → (p : ℕ) → Prefix next early end p
+chain-prefix next early end grows le =
+    chain-ind next early grows (Prefix next early end)
+    (λ p h. record { place = p; past = h; split = rw (chain-end next early grows p h) })
+    (λ p h ih. record {
+      place = ih .place;
+      past = ih .past;
+      split =
+          chain-more next end grows p (omega arith) ∙ ap (λ (l : List ℕ). p ∷ l) (ih .split)
+          ∙ ap (λ (l : List ℕ). l ++ chain next end (ih .place)) (sym (chain-more next early grows p h));
+    })

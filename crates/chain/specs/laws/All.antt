@@ -1,0 +1,26 @@
+-- What holds of each element of a list: got from what holds of everything or of something stronger, and used at a number. Assumes nothing.
+use Prim.Native.Nat.{ℕ, zero, suc, _<_}
+use mathlib.Core.List.{List, [], _∷_, map}
+use mathlib.Core.Path.{_≡_, refl, ap₂}
+use native.Mathlib.Omega.{arith}
+use lib.ListN.{length, getD}
+use Rattle.chain.specs.All.{All}
+
+module _ {A : Type 0} where
+  pub all-of : (P : A → Type 0) → ((x : A) → P x) → (l : List A) → All P l
+  all-of P f [] = tt
+  all-of P f (x ∷ xs) = (f x, all-of P f xs)
+
+  pub all-map : (P Q : A → Type 0) → ((x : A) → P x → Q x) → (l : List A) → All P l → All Q l
+  all-map P Q f [] a = tt
+  all-map P Q f (x ∷ xs) a = (f x (a .0), all-map P Q f xs (a .1))
+
+  pub all-getD : (P : A → Type 0) (l : List A) (n : ℕ) (d : A) → All P l → n < length l → P (getD l n d)
+  all-getD P [] n d a h = absurd (omega arith)
+  all-getD P (x ∷ xs) zero d a h = a .0
+  all-getD P (x ∷ xs) (suc n) d a h = all-getD P xs n d (a .1) (omega arith)
+
+  -- two functions that agree along the list
+  pub map-agree : {B : Type 0} (f g : A → B) (l : List A) → All (λ x. f x ≡ g x) l → map f l ≡ map g l
+  map-agree f g [] a = refl
+  map-agree {B} f g (x ∷ xs) a = ap₂ (λ (y : B) (ys : List B). y ∷ ys) (a .0) (map-agree f g xs (a .1))

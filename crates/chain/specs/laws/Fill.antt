@@ -1,0 +1,58 @@
+-- The laws of `tab` and of a buffer that is filled from the front by a loop. Assumes nothing.
+use Prim.Native.Nat.{ℕ, zero, suc, _+_, _≤_, _<_}
+use mathlib.Core.List.{List, [], _∷_, _++_, append-assoc}
+use mathlib.Core.Logic.{inl, inr}
+use mathlib.Core.Path.{_≡_, refl, sym, ap, ap₂, _∙_}
+use native.Mathlib.Numerals.{add-one}
+use native.Mathlib.Omega.{arith}
+use lib.ListN.{length, getD, drop, set, length-append, length-drop, List·getD-append}
+use lib.Seq.{drop-cons, set-at, getD-at}
+use Rattle.chain.specs.Fill.{tab, filled}
+use Rattle.chain.specs.laws.Below.{below}
+
+module _ {A : Type 0} where
+  pub length-tab : (f : ℕ → A) (n : ℕ) → length (tab f n) ≡ n
+  unfolding tab
+  length-tab f zero = refl
+  length-tab f (suc n) = length-append (tab f n) (f n ∷ []) ∙ omega (arith, length-tab f n)
+
+  pub getD-tab : (f : ℕ → A) (n i : ℕ) (d : A) → i < n → getD (tab f n) i d ≡ f i
+  unfolding tab
+  getD-tab f zero i d h = absurd (omega arith)
+  getD-tab f (suc n) i d h =
+      elim (below i n) [
+        | inl k ↦ List·getD-append (tab f n) (f n ∷ []) d i (omega (arith, length-tab f n)) ∙ getD-tab f n i d k
+        | inr k ↦ let e : i ≡ n = omega arith in rw e (getD-at (tab f n) (f n) [] d n (length-tab f n))
+      ]
+
+  -- two functions that agree below n
+  pub tab-agree : (f g : ℕ → A) (n : ℕ) → ((i : ℕ) → i < n → f i ≡ g i) → tab f n ≡ tab g n
+  unfolding tab
+  tab-agree f g zero h = refl
+  tab-agree f g (suc n) h =
+      ap₂ (λ (l : List A) (x : A). l ++ (x ∷ [])) (tab-agree f g n (λ i k. h i (omega arith))) (h n (omega arith))
+
+  pub filled-agree : (f g : ℕ → A) (n : ℕ) (b : List A) → ((i : ℕ) → i < n → f i ≡ g i) → filled f n b ≡ filled g n b
+  unfolding filled
+  filled-agree f g n b h = ap (λ (l : List A). l ++ drop n b) (tab-agree f g n h)
+
+  pub length-filled : (f : ℕ → A) (n : ℕ) (b : List A) → n ≤ length b → length (filled f n b) ≡ length b
+  unfolding filled
+  length-filled f n b h = simp (length-append, length-tab, length-drop) (omega arith)
+
+  -- ---- a loop that stores f i at i, with the invariant `b ≡ filled f i b₀`: its start, a turn, and its end
+  pub fill-start : (f : ℕ → A) (b : List A) → b ≡ filled f 0 b
+  unfolding filled tab
+  fill-start f b = refl
+
+  filled-more : (f : ℕ → A) (i : ℕ) (b : List A) → i < length b → set (filled f i b) i (f i) ≡ filled f (i + 1) b
+  unfolding filled tab
+  filled-more f i b h =
+      rw (add-one, drop-cons b i (f i) h)
+      (set-at (tab f i) (getD b i (f i)) (drop (suc i) b) (f i) i (length-tab f i) ∙ sym (append-assoc (tab f i) (f i ∷ []) (drop (suc i) b)))
+
+  pub fill-turn : (f : ℕ → A) (i : ℕ) (b₀ b : List A) → i < length b₀ → b ≡ filled f i b₀ → set b i (f i) ≡ filled f (i + 1) b₀
+  fill-turn f i b₀ b h e = ap (λ (l : List A). set l i (f i)) e ∙ filled-more f i b₀ h
+
+  pub fill-done : (f : ℕ → A) (i n : ℕ) (b₀ b : List A) → i ≡ n → b ≡ filled f i b₀ → b ≡ filled f n b₀
+  fill-done f i n b₀ b k e = e ∙ ap (λ (m : ℕ). filled f m b₀) k

@@ -1,0 +1,3 @@
+-- Laws of the definitions, for other crates to cite. Assumes nothing.
+pub mod Bits
+pub mod Kinds

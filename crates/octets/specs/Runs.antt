@@ -1,0 +1,73 @@
+-- Fixed runs of bytes as they are shown, runs beside each other, and zeros. Assumes nothing.
+-- the first six, eight, sixteen bytes of a list
+use Prim.Native.Nat.{ℕ, _+_}
+use mathlib.Core.Bool.{Bool, true, false, not}
+use mathlib.Core.List.{List}
+use lib.Dec.{eqb}
+use Rattle.chain.specs.Chain.{range}
+use Rattle.chain.specs.First.{first, when}
+use Rattle.chain.specs.declared.Found.{Found}
+use Rattle.chain.specs.declared.Found.the-variants.{At, Nothing}
+use Rattle.octets.specs.Bytes.{byte, run}
+use Rattle.octets.specs.declared.Eight.{Eight}
+use Rattle.octets.specs.declared.Six.{Six}
+use Rattle.octets.specs.declared.Sixteen.{Sixteen}
+
+abbrev pub six : List ℕ → Six
+six l = record { b0 = byte l 0; b1 = byte l 1; b2 = byte l 2; b3 = byte l 3; b4 = byte l 4; b5 = byte l 5 }
+
+abbrev pub eight : List ℕ → Eight
+eight l = record { b0 = byte l 0; b1 = byte l 1; b2 = byte l 2; b3 = byte l 3; b4 = byte l 4; b5 = byte l 5; b6 = byte l 6; b7 = byte l 7 }
+
+abbrev pub sixteen : List ℕ → Sixteen
+sixteen l =
+    record {
+      b0 = byte l 0;
+      b1 = byte l 1;
+      b2 = byte l 2;
+      b3 = byte l 3;
+      b4 = byte l 4;
+      b5 = byte l 5;
+      b6 = byte l 6;
+      b7 = byte l 7;
+      b8 = byte l 8;
+      b9 = byte l 9;
+      b10 = byte l 10;
+      b11 = byte l 11;
+      b12 = byte l 12;
+      b13 = byte l 13;
+      b14 = byte l 14;
+      b15 = byte l 15;
+    }
+
+-- those at place p
+unfoldable pub sixAt : List ℕ → ℕ → Six
+sixAt s p = six (run s p 6)
+
+unfoldable pub eightAt : List ℕ → ℕ → Eight
+eightAt s p = eight (run s p 8)
+
+unfoldable pub sixteenAt : List ℕ → ℕ → Sixteen
+sixteenAt s p = sixteen (run s p 16)
+
+-- the first offset at which two runs of n bytes differ, a's from p on and b's from q on
+abbrev pub differs : List ℕ → ℕ → List ℕ → ℕ → ℕ → Found
+differs a p b q i = when (not (eqb (byte a (p + i)) (byte b (q + i)))) i
+
+unfoldable pub difference : List ℕ → ℕ → List ℕ → ℕ → ℕ → Found
+difference a p b q n = first (differs a p b q) (range 0 n)
+
+-- whether they are equal: there is no such offset
+abbrev pub none : Found → Bool
+none (At i) = false
+none Nothing = true
+
+unfoldable pub sameRun : List ℕ → ℕ → List ℕ → ℕ → ℕ → Bool
+sameRun a p b q n = none (difference a p b q n)
+
+-- the first byte that is not zero, of those from `from` up to `to` places after p
+abbrev pub isNonzero : List ℕ → ℕ → ℕ → Found
+isNonzero s p i = when (not (eqb (byte s (p + i)) 0)) (p + i)
+
+unfoldable pub nonzero : List ℕ → ℕ → ℕ → ℕ → Found
+nonzero s p from to = first (isNonzero s p) (range from to)

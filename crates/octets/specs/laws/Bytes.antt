@@ -1,0 +1,53 @@
+-- Bytes past the end, runs of bytes, and the bounds of the numbers they spell. Assumes nothing.
+use Prim.Native.Nat.{ℕ, zero, suc, _+_, _^_, _≤_, _<_}
+use mathlib.Core.List.{List, [], _∷_}
+use mathlib.Core.Logic.{inl, inr}
+use mathlib.Core.Path.{_≡_}
+use native.Mathlib.Nat.{pow-suc}
+use native.Mathlib.Omega.{arith}
+use lib.ListN.{length, List·getD-eq-default}
+use Rattle.chain.specs.laws.Below.{below}
+use Rattle.chain.specs.laws.Fill.{length-tab, getD-tab}
+use Rattle.octets.specs.Bytes.{byte, Octets, run, little, le16, le32, le64}
+
+pub byte-past : (s : List ℕ) (p : ℕ) → length s ≤ p → byte s p ≡ 0
+byte-past s p h = List·getD-eq-default s 0 h
+
+-- a byte that is not zero lies within
+pub byte-within : (s : List ℕ) (p : ℕ) → 0 < byte s p → p < length s
+byte-within s p h = elim (below p (length s)) [ inl k ↦ k | inr k ↦ absurd (omega (arith, byte-past s p k)) ]
+
+pub length-run : (s : List ℕ) (p n : ℕ) → length (run s p n) ≡ n
+length-run s p n = length-tab (λ i. byte s (p + i)) n
+
+pub byte-run : (s : List ℕ) (p n i : ℕ) → i < n → byte (run s p n) i ≡ byte s (p + i)
+byte-run s p n i h = getD-tab (λ j. byte s (p + j)) n i 0 h
+
+pub run-octets : (s : List ℕ) (p n : ℕ) → Octets s → Octets (run s p n)
+run-octets s p n h i =
+    elim (below i n) [
+      | inl k ↦ omega (arith, byte-run s p n i k, h (p + i))
+      | inr k ↦ omega (arith, byte-past (run s p n) i (omega (arith, length-run s p n)))
+    ]
+
+-- n bytes spell a number below 256 ^ n
+pub little-below : (l : List ℕ) → Octets l → little l < 256 ^ length l
+little-below [] h = omega arith
+little-below (b ∷ bs) h =
+    omega (arith, h zero, little-below bs (λ p. h (suc p)), pow-suc 256 (length bs))
+
+module _ (s : List ℕ) (octets : Octets s) (p : ℕ) where
+  run-below : (n : ℕ) → little (run s p n) < 256 ^ n
+  run-below n = rw (length-run s p n) at (little-below (run s p n) (run-octets s p n octets))
+
+  pub le16-below : le16 s p < 2 ^ 16
+  unfolding le16
+  le16-below = run-below 2
+
+  pub le32-below : le32 s p < 2 ^ 32
+  unfolding le32
+  le32-below = run-below 4
+
+  pub le64-below : le64 s p < 2 ^ 64
+  unfolding le64
+  le64-below = run-below 8
