@@ -1,11 +1,11 @@
 -- A chain of items that lie end to end: the item at place p ends, and the next one starts, at `next p`.
 -- The bytes of a range and records of one size are chains as well. Assumes nothing.
--- the first places of the chain from p on, at most `fuel` of them, each below `end`
 use Prim.Native.Nat.{ℕ, zero, suc, _+_}
 use mathlib.Core.Bool.{cond}
 use mathlib.Core.List.{List, [], _∷_}
 use lib.Dec.{ltb}
 
+-- the first places of the chain from p on, at most `fuel` of them, each below `end`
 unfoldable pub visit : (ℕ → ℕ) → ℕ → ℕ → ℕ → List ℕ
 visit next end zero p = []
 visit next end (suc fuel) p = let more = p ∷ visit next end fuel (next p) in cond (ltb p end) more []

@@ -1,5 +1,4 @@
 -- The first place at which a rule is broken. A rule says of an item where the item breaks it. Assumes nothing.
--- the first answer, or the second where the first is nothing
 use Prim.Native.Nat.{ℕ}
 use mathlib.Core.Bool.{Bool, true, false}
 use mathlib.Core.List.{List, [], _∷_}
@@ -7,6 +6,7 @@ use Rattle.chain.specs.Chain.{chain}
 use Rattle.chain.specs.declared.Found.{Found}
 use Rattle.chain.specs.declared.Found.the-variants.{At, Nothing}
 
+-- the first answer, or the second where the first is nothing
 abbrev pub orElse : Found → Found → Found
 orElse (At p) f = At p
 orElse Nothing f = f

@@ -1,6 +1,8 @@
+-- The definitions that the contracts cite, examples of them, and laws that other crates may cite. Assumes nothing.
 pub mod Chain
 pub mod First
 pub mod Nth
 pub mod All
 pub mod Fill
+pub mod Examples
 pub mod laws

@@ -1,3 +1,4 @@
+-- What is proved of the definitions. Assumes nothing.
 pub mod Below
 pub mod All
 pub mod Chain

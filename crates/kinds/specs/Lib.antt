@@ -1,4 +1,5 @@
--- The definitions that the contracts cite, and laws of them that other crates may cite. Assumes nothing.
+-- The definitions that the contracts cite, examples of them, and laws that other crates may cite. Assumes nothing.
 pub mod Signatures
 pub mod Kinds
+pub mod Examples
 pub mod laws

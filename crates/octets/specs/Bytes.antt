@@ -1,10 +1,10 @@
 -- Bytes of an image, and the numbers they spell. An image is a list of numbers below 256. Assumes nothing.
--- the byte at place p; past the end it reads as 0
 use Prim.Native.Nat.{ℕ, _+_, _*_, _<_}
 use mathlib.Core.List.{List, [], _∷_}
 use lib.ListN.{getD}
 use Rattle.chain.specs.Fill.{tab}
 
+-- the byte at place p; past the end it reads as 0
 abbrev pub byte : List ℕ → ℕ → ℕ
 byte s p = getD s p 0
 

@@ -1,6 +1,5 @@
 -- Text, and labels. Paper 01: "A label is text (empty allowed) of characters 20h to 7Eh other than '$', then '$', then zeros; or sixteen such characters."
 -- Its bad byte is the first that no good label with the same beginning has. Assumes nothing.
--- "Characters are 20h to 7Eh."
 use Prim.Native.Nat.{ℕ, _+_, _≤_, _<_}
 use mathlib.Core.Bool.{Bool, true, not, _&&_}
 use mathlib.Core.List.{List}
@@ -15,6 +14,7 @@ use Rattle.chain.specs.declared.Found.the-variants.{At, Nothing}
 use Rattle.octets.specs.Bytes.{byte}
 use Rattle.octets.specs.Runs.{nonzero}
 
+-- "Characters are 20h to 7Eh."
 unfoldable pub isText : ℕ → Bool
 isText b = leb 0x20 b && leb b 0x7E
 

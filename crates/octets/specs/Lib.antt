@@ -1,4 +1,6 @@
+-- The definitions that the contracts cite, examples of them, and laws that other crates may cite. Assumes nothing.
 pub mod Bytes
 pub mod Runs
 pub mod Label
+pub mod Examples
 pub mod laws

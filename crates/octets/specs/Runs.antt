@@ -1,5 +1,4 @@
 -- Fixed runs of bytes as they are shown, runs beside each other, and zeros. Assumes nothing.
--- the first six, eight, sixteen bytes of a list
 use Prim.Native.Nat.{ℕ, _+_}
 use mathlib.Core.Bool.{Bool, true, false, not}
 use mathlib.Core.List.{List}
@@ -13,6 +12,7 @@ use Rattle.octets.specs.declared.Eight.{Eight}
 use Rattle.octets.specs.declared.Six.{Six}
 use Rattle.octets.specs.declared.Sixteen.{Sixteen}
 
+-- the first six, eight, sixteen bytes of a list
 abbrev pub six : List ℕ → Six
 six l = record { b0 = byte l 0; b1 = byte l 1; b2 = byte l 2; b3 = byte l 3; b4 = byte l 4; b5 = byte l 5 }
 
@@ -58,12 +58,12 @@ unfoldable pub difference : List ℕ → ℕ → List ℕ → ℕ → ℕ → Fo
 difference a p b q n = first (differs a p b q) (range 0 n)
 
 -- whether they are equal: there is no such offset
-abbrev pub none : Found → Bool
-none (At i) = false
-none Nothing = true
+abbrev pub isNothing : Found → Bool
+isNothing (At i) = false
+isNothing Nothing = true
 
 unfoldable pub sameRun : List ℕ → ℕ → List ℕ → ℕ → ℕ → Bool
-sameRun a p b q n = none (difference a p b q n)
+sameRun a p b q n = isNothing (difference a p b q n)
 
 -- the first byte that is not zero, of those from `from` up to `to` places after p
 abbrev pub isNonzero : List ℕ → ℕ → ℕ → Found

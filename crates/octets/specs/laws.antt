@@ -1,5 +1,6 @@
+-- What is proved of the definitions. Assumes nothing.
 pub mod Bytes
 pub mod Runs
-pub mod Same
 pub mod Label
 pub mod LabelRule
+pub mod Same

@@ -1,2 +1,3 @@
+-- What is proved of the definitions. Assumes nothing.
 pub mod Accepted
 pub mod Refused

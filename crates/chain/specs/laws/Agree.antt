@@ -1,5 +1,4 @@
 -- Two chains beside each other: two `next` that agree on the places visited, and one chain up to an earlier end. Assumes nothing.
--- two functions that agree on the places visited have one chain
 use Prim.Native.Nat.{ℕ, _≤_, _<_}
 use mathlib.Core.List.{List, _∷_, _++_}
 use mathlib.Core.Path.{_≡_, sym, ap, _∙_}
@@ -8,6 +7,7 @@ use Rattle.chain.specs.All.{All}
 use Rattle.chain.specs.Chain.{chain}
 use Rattle.chain.specs.laws.Chain.{chain-end, chain-more, chain-ind}
 
+-- two functions that agree on the places visited have one chain
 pub chain-agree : (next other : ℕ → ℕ) (end : ℕ) → ((p : ℕ) → p < next p) → ((p : ℕ) → p < other p) → (p : ℕ) → All (λ q. next q ≡ other q) (chain next end p) → chain next end p ≡ chain other end p
 chain-agree next other end grows rises =
     chain-ind next end grows (λ p. All (λ q. next q ≡ other q) (chain next end p) → chain next end p ≡ chain other end p)

@@ -1,6 +1,5 @@
 -- The laws of the first place at which a rule is broken, over any list of places: when nothing is found, where what is found comes from,
 -- and two rules beside each other. Assumes nothing.
--- a place is not nothing
 use Prim.Native.Nat.{ℕ}
 use mathlib.Core.Bool.{Bool, true, false}
 use mathlib.Core.List.{List, [], _∷_, _++_}
@@ -11,6 +10,7 @@ use Rattle.chain.specs.First.{orElse, when, first}
 use Rattle.chain.specs.declared.Found.{Found}
 use Rattle.chain.specs.declared.Found.the-variants.{At, Nothing}
 
+-- a place is not nothing
 pub at-nothing : {p : ℕ} → At p ≡ Nothing → ⊥
 at-nothing e = let z : _≡_ {A = ℕ} 0 1 = cc in omega arith
 

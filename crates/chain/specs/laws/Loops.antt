@@ -1,6 +1,5 @@
 -- Loops along a chain. A loop that stands at place p has as its invariant that the answer from p on is the answer r of the whole;
 -- each law below is one way on from there: a turn to the next place q, a return, or the end. Assumes nothing.
--- a loop over a range goes one place at a time
 use Prim.Native.Nat.{ℕ, zero, suc, _+_, _-_, _≤_, _<_}
 use mathlib.Core.List.{List, _∷_}
 use mathlib.Core.Path.{_≡_, sym, ap, _∙_}
@@ -15,6 +14,7 @@ use Rattle.chain.specs.laws.Chain.{chain-end, chain-more}
 use Rattle.chain.specs.laws.First.{orElse-left, orElse-right}
 use Rattle.chain.specs.laws.Places.{count-end, count-more}
 
+-- a loop over a range goes one place at a time
 pub one-grows : (p : ℕ) → p < ahead 1 p
 one-grows p = omega arith
 

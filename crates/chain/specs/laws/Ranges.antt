@@ -1,5 +1,4 @@
 -- A test over a range of numbers: the least number that passes it, or that none does. Assumes nothing.
--- `number` is the least from a up to b that passes the test, and z its place
 use Prim.Native.Nat.{ℕ, _≤_, _<_}
 use mathlib.Core.Bool.{Bool, true, false}
 use mathlib.Core.Logic.{inl, inr}
@@ -14,6 +13,7 @@ use Rattle.chain.specs.laws.Chain.{chain-ind}
 use Rattle.chain.specs.laws.First.{at-nothing, orElse-left, orElse-right, when-nothing}
 use Rattle.chain.specs.laws.Loops.{one-grows, search-end, search-more}
 
+-- `number` is the least from a up to b that passes the test, and z its place
 pub record Least (test : ℕ → Bool) (place : ℕ → ℕ) (a b z : ℕ) : Type 0 where
   pub number : ℕ
   pub from : a ≤ number

@@ -1,5 +1,4 @@
 -- Where the text of a label ends, and what its bytes are before, at and after that. Assumes nothing.
--- '$' is no text
 use Prim.Native.Nat.{ℕ, _+_, _-_, _≤_, _<_}
 use mathlib.Core.Bool.{Bool, true, false, not, _&&_}
 use mathlib.Core.List.{List}
@@ -16,6 +15,7 @@ use Rattle.octets.specs.Bytes.{byte}
 use Rattle.octets.specs.Label.{isText, isLabelText, dollar, textEnd}
 use Rattle.octets.specs.laws.Bytes.{byte-within}
 
+-- '$' is no text
 pub dollar-text : (b : ℕ) → b ≡ dollar → isLabelText b ≡ false
 unfolding isLabelText isText
 dollar-text b e = ap isLabelText e

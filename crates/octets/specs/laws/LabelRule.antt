@@ -1,7 +1,6 @@
 -- The label rule is the paper's: nothing is bad exactly in good labels, and the bad byte is the first that no good label with the same beginning has.
 -- The idea: text, '$' and zero are told apart by one byte, so the bytes before the bad one fix how many characters a label with that beginning has.
 -- Assumes nothing.
--- a byte is not both text and no text
 use Prim.Native.Nat.{ℕ, _+_, _≤_, _<_}
 use mathlib.Core.Bool.{Bool, true, false, not, cond}
 use mathlib.Core.List.{List}
@@ -25,6 +24,7 @@ use Rattle.octets.specs.laws.Bytes.{length-run, byte-run}
 use Rattle.octets.specs.laws.Label.{dollar-text, text-full, full-text, text-fits, text-before, text-stops, stops-text}
 use Rattle.octets.specs.laws.Runs.{isSet, nonzero-least, nonzero-none, none-nonzero}
 
+-- a byte is not both text and no text
 clash : (b : ℕ) → isLabelText b ≡ true → isLabelText b ≡ false → ⊥
 clash b t f = subst T (sym t ∙ f) tt
 

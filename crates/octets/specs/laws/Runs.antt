@@ -11,7 +11,7 @@ use Rattle.chain.specs.declared.Found.the-variants.{At, Nothing}
 use Rattle.chain.specs.laws.Fill.{tab-agree}
 use Rattle.chain.specs.laws.Ranges.{Least, range-least, range-none, none-range}
 use Rattle.octets.specs.Bytes.{byte, run}
-use Rattle.octets.specs.Runs.{difference, none, sameRun, nonzero}
+use Rattle.octets.specs.Runs.{difference, isNothing, sameRun, nonzero}
 use Rattle.octets.specs.laws.Bytes.{byte-run}
 
 module _ (a : List ℕ) (p : ℕ) (b : List ℕ) (q n : ℕ) where
@@ -24,20 +24,20 @@ module _ (a : List ℕ) (p : ℕ) (b : List ℕ) (q n : ℕ) where
   difference-least i e = range-least apart (λ j. j) n 0 i e
 
   -- two runs are the same exactly where no offset differs
-  pub same-run : sameRun a p b q n ≡ true → run a p n ≡ run b q n
+  pub same-is-equal : sameRun a p b q n ≡ true → run a p n ≡ run b q n
   unfolding sameRun difference
-  same-run e =
+  same-is-equal e =
       tab-agree (λ i. byte a (p + i)) (λ i. byte b (q + i)) n
       (λ i h. eqb-true _ _ (not-false _ (range-none apart (λ j. j) n 0 (nothing (difference a p b q n) e) i (omega arith) h)))
     where
-      nothing : (f : Found) → none f ≡ true → f ≡ Nothing
+      nothing : (f : Found) → isNothing f ≡ true → f ≡ Nothing
       nothing (At i) e = cc
       nothing Nothing e = refl
 
-  pub run-same-bytes : run a p n ≡ run b q n → sameRun a p b q n ≡ true
+  pub equal-is-same : run a p n ≡ run b q n → sameRun a p b q n ≡ true
   unfolding sameRun difference
-  run-same-bytes e =
-      ap none
+  equal-is-same e =
+      ap isNothing
       (none-range apart (λ j. j) n 0
       (λ i k h. ap not (eq-eqb _ _ (sym (byte-run a p n i h) ∙ ap (λ (l : List ℕ). byte l i) e ∙ byte-run b q n i h))))
 

@@ -1,11 +1,22 @@
 -- Two images that agree on the places from a up to b: what is read there is the same. Assumes nothing.
 use Prim.Native.Nat.{ℕ, _+_, _≤_, _<_}
+use mathlib.Core.Bool.{not}
 use mathlib.Core.List.{List}
-use mathlib.Core.Path.{_≡_, ap}
+use mathlib.Core.Path.{_≡_, refl, ap, ap₂, _∙_}
 use native.Mathlib.Omega.{arith}
+use lib.Dec.{eqb}
+use Rattle.chain.specs.Chain.{range, ahead}
+use Rattle.chain.specs.First.{when, orElse}
+use Rattle.chain.specs.declared.Found.{Found}
+use Rattle.chain.specs.declared.Found.the-variants.{At, Nothing}
 use Rattle.chain.specs.laws.Fill.{tab-agree}
+use Rattle.chain.specs.laws.First.{first-agree}
+use Rattle.chain.specs.laws.Loops.{one-grows}
+use Rattle.chain.specs.laws.Places.{chain-all}
 use Rattle.octets.specs.Bytes.{byte, run, little, le16, le32, le64}
-use Rattle.octets.specs.Runs.{six, eight, sixteen, sixAt, eightAt, sixteenAt}
+use Rattle.octets.specs.Label.{isLabelText, dollar, noText, textEnd, afterText, badLabel}
+use Rattle.octets.specs.Runs.{six, eight, sixteen, sixAt, eightAt, sixteenAt, isNonzero, nonzero}
+use Rattle.octets.specs.laws.Label.{text-fits}
 
 abbrev pub Same : List ℕ → List ℕ → ℕ → ℕ → Type 0
 Same s t a b = (q : ℕ) → a ≤ q → q < b → byte s q ≡ byte t q
@@ -13,9 +24,9 @@ Same s t a b = (q : ℕ) → a ≤ q → q < b → byte s q ≡ byte t q
 pub same-part : (s t : List ℕ) (a b c d : ℕ) → a ≤ c → d ≤ b → Same s t a b → Same s t c d
 same-part s t a b c d h k same = λ q i j. same q (omega arith) (omega arith)
 
-module _ (s t : List ℕ) (a b : ℕ) (same : Same s t a b) (p : ℕ) (from : a ≤ p) where
+module _ (s t : List ℕ) (a b : ℕ) (same : Same s t a b) (p : ℕ) (start : a ≤ p) where
   pub byte-same : p + 1 ≤ b → byte s p ≡ byte t p
-  byte-same h = same p from (omega arith)
+  byte-same h = same p start (omega arith)
 
   pub run-same : (n : ℕ) → p + n ≤ b → run s p n ≡ run t p n
   run-same n h = tab-agree (λ i. byte s (p + i)) (λ i. byte t (p + i)) n (λ i k. same (p + i) (omega arith) (omega arith))
@@ -43,3 +54,28 @@ module _ (s t : List ℕ) (a b : ℕ) (same : Same s t a b) (p : ℕ) (from : a 
   pub sixteen-same : p + 16 ≤ b → sixteenAt s p ≡ sixteenAt t p
   unfolding sixteenAt
   sixteen-same h = ap sixteen (run-same 16 h)
+
+  -- ---- what is searched for there is found at the same place
+  pub nonzero-same : (from to : ℕ) → p + to ≤ b → nonzero s p from to ≡ nonzero t p from to
+  unfolding nonzero
+  nonzero-same from to h =
+      first-agree (isNonzero s p) (isNonzero t p) (range from to)
+      (chain-all (ahead 1) to one-grows (λ i. isNonzero s p i ≡ isNonzero t p i) from
+      (λ i _ k. ap (λ (x : ℕ). when (not (eqb x 0)) (p + i)) (same (p + i) (omega arith) (omega arith))))
+
+  text-same : p + 16 ≤ b → textEnd s p ≡ textEnd t p
+  unfolding textEnd
+  text-same h =
+      first-agree (noText s p) (noText t p) (range 0 16)
+      (chain-all (ahead 1) 16 one-grows (λ i. noText s p i ≡ noText t p i) 0
+      (λ i _ k. ap (λ (x : ℕ). when (not (isLabelText x)) i) (same (p + i) (omega arith) (omega arith))))
+
+  pub label-same : p + 16 ≤ b → badLabel s p ≡ badLabel t p
+  unfolding badLabel
+  label-same h = go (textEnd s p) refl ∙ ap (afterText t p) (text-same h)
+    where
+      go : (f : Found) → textEnd s p ≡ f → afterText s p f ≡ afterText t p f
+      go (At i) e =
+          ap₂ (λ (x : ℕ) (f : Found). orElse (when (not (eqb x dollar)) (p + i)) f)
+          (same (p + i) (omega arith) (omega (arith, text-fits s p i e))) (nonzero-same (i + 1) 16 h)
+      go Nothing e = refl

@@ -1,0 +1,65 @@
+-- What the definitions give on small examples, by computation: numbers, runs, and labels good and bad. Assumes nothing.
+use Prim.Native.Nat.{ℕ}
+use mathlib.Core.Bool.{true, false}
+use mathlib.Core.List.{List, [], _∷_, _++_}
+use mathlib.Core.Path.{_≡_, refl}
+use lib.ListN.{replicate}
+use Rattle.chain.specs.Chain.{visit, chain}
+use Rattle.chain.specs.Fill.{tab}
+use Rattle.chain.specs.First.{first}
+use Rattle.chain.specs.declared.Found.the-variants.{At, Nothing}
+use Rattle.octets.specs.Bytes.{le16, le32}
+use Rattle.octets.specs.Runs.{difference, sameRun, nonzero}
+use Rattle.octets.specs.Label.{isText, isLabelText, textEnd, badLabel}
+
+-- the first byte is the lowest; past the end a byte reads as 0
+number : le16 (0x00 ∷ 0x34 ∷ 0x12 ∷ []) 1 ≡ 0x1234
+unfolding le16 tab
+number = refl
+
+number-past : le32 (0x00 ∷ 0x34 ∷ 0x12 ∷ []) 1 ≡ 0x1234
+unfolding le32 tab
+number-past = refl
+
+apart : difference (1 ∷ 2 ∷ 3 ∷ 4 ∷ []) 0 (0 ∷ 1 ∷ 2 ∷ 9 ∷ []) 1 4 ≡ At 2
+unfolding difference first chain visit
+apart = refl
+
+alike : sameRun (1 ∷ 2 ∷ 3 ∷ 4 ∷ []) 0 (0 ∷ 1 ∷ 2 ∷ 9 ∷ []) 1 2 ≡ true
+unfolding sameRun difference first chain visit
+alike = refl
+
+-- "top1"
+abbrev top1 : List ℕ
+top1 = 0x74 ∷ 0x6F ∷ 0x70 ∷ 0x31 ∷ []
+
+-- '$' and zeros after it
+label-ended : badLabel (top1 ++ (0x24 ∷ replicate 11 0)) 0 ≡ Nothing
+unfolding badLabel textEnd isLabelText isText nonzero first chain visit
+label-ended = refl
+
+-- sixteen characters; fifteen and '$'; none and '$'
+label-full : badLabel (top1 ++ (top1 ++ (top1 ++ top1))) 0 ≡ Nothing
+unfolding badLabel textEnd isLabelText isText nonzero first chain visit
+label-full = refl
+
+label-fifteen : badLabel (replicate 15 0x20 ++ (0x24 ∷ [])) 0 ≡ Nothing
+unfolding badLabel textEnd isLabelText isText nonzero first chain visit
+label-fifteen = refl
+
+label-empty : badLabel (0x24 ∷ replicate 15 0) 0 ≡ Nothing
+unfolding badLabel textEnd isLabelText isText nonzero first chain visit
+label-empty = refl
+
+-- no '$' after the text; no text and no '$'; the last byte is not zero. The label stands at place 1 of the list
+label-unended : badLabel (0 ∷ top1 ++ replicate 12 0) 1 ≡ At 5
+unfolding badLabel textEnd isLabelText isText nonzero first chain visit
+label-unended = refl
+
+label-zeros : badLabel (0 ∷ replicate 16 0) 1 ≡ At 1
+unfolding badLabel textEnd isLabelText isText nonzero first chain visit
+label-zeros = refl
+
+label-dirty : badLabel (0 ∷ 0x24 ∷ replicate 14 0 ++ (1 ∷ [])) 1 ≡ At 16
+unfolding badLabel textEnd isLabelText isText nonzero first chain visit
+label-dirty = refl
