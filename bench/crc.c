@@ -1,0 +1,132 @@
+// Compares the exported CRC functions with zlib's crc32 and with a plain table loop for CRC-8: first their values, then their times.
+//
+// Build, after `rt staticlib crc_c` (zlib's header and library are needed):
+//     clang -O3 bench/bench.c target/staticlib/libcrc_c.a -lz -o target/bench
+#include <stdint.h>
+#include <stdio.h>
+#include <stdlib.h>
+#include <string.h>
+#include <time.h>
+#include <zlib.h>
+
+uint8_t chip_crc8(const uint8_t *s, size_t n);
+uint8_t chip_crc8_run(uint8_t c, const uint8_t *s, size_t n);
+uint32_t chip_crc32(const uint8_t *s, size_t n);
+uint32_t chip_crc32_run(uint32_t c, const uint8_t *s, size_t n);
+uint32_t chip_crc32_field_as_zero(const uint8_t *s, size_t n);
+
+enum { LONGEST = 65536, CHECKED = 5000, ROUNDS = 31 };
+
+// CRC-8 as C programs have it: a table that is made once, and one lookup a byte.
+static uint8_t table[256];
+
+static void make_table(void) {
+    for (unsigned i = 0; i < 256; i++) {
+        unsigned r = i;
+        for (int k = 0; k < 8; k++) {
+            r = r & 0x80 ? (r << 1) ^ 0x107 : r << 1;
+        }
+        table[i] = (uint8_t)r;
+    }
+}
+
+__attribute__((noinline)) static uint8_t table_crc8(const uint8_t *s, size_t n) {
+    uint8_t c = 0;
+    for (size_t i = 0; i < n; i++) {
+        c = table[c ^ s[i]];
+    }
+    return c;
+}
+
+// What is timed has one shape.
+typedef uint32_t (*Sum)(const uint8_t *s, size_t n);
+
+static uint32_t zlib_crc32(const uint8_t *s, size_t n) { return (uint32_t)crc32(0, s, (uInt)n); }
+static uint32_t c_crc8(const uint8_t *s, size_t n) { return table_crc8(s, n); }
+static uint32_t our_crc8(const uint8_t *s, size_t n) { return chip_crc8(s, n); }
+
+static double seconds(void) {
+    struct timespec t;
+    clock_gettime(CLOCK_MONOTONIC, &t);
+    return (double)t.tv_sec + (double)t.tv_nsec * 1e-9;
+}
+
+static volatile uint32_t sink;
+
+// Seconds for one call, over `calls` calls.
+static double once(Sum f, const uint8_t *s, size_t n, int calls) {
+    double start = seconds();
+    for (int i = 0; i < calls; i++) {
+        sink += f(s, n);
+    }
+    return (seconds() - start) / calls;
+}
+
+static int ascending(const void *a, const void *b) {
+    double x = *(const double *)a, y = *(const double *)b;
+    return (x > y) - (x < y);
+}
+
+// The two functions take turns, round by round. The best time of each, and the median of the rounds' quotients.
+static void compare(const char *name, const char *of, Sum ours, Sum theirs, const uint8_t *s, size_t n) {
+    int calls = (int)(2000000 / (n + 200)) + 1;
+    double quotient[ROUNDS], best_ours = 1e9, best_theirs = 1e9;
+    for (int k = 0; k < ROUNDS; k++) {
+        double a = once(ours, s, n, calls), b = once(theirs, s, n, calls);
+        quotient[k] = a / b;
+        if (a < best_ours) best_ours = a;
+        if (b < best_theirs) best_theirs = b;
+    }
+    qsort(quotient, ROUNDS, sizeof quotient[0], ascending);
+    printf("%s %zu bytes: %.2f of %s (median of %d rounds; best against best %.2f: %.0f ns and %.0f ns)\n", name, n, quotient[ROUNDS / 2], of, ROUNDS,
+           best_ours / best_theirs, best_ours * 1e9, best_theirs * 1e9);
+}
+
+static void fail(const char *what, size_t n) {
+    printf("%s differs at %zu bytes\n", what, n);
+    exit(1);
+}
+
+// The same values at every length from 0 to CHECKED - 1, whole and in two parts, at an address that is not aligned.
+static void check(const uint8_t *s) {
+    uint8_t blank[CHECKED];
+    for (size_t n = 0; n < CHECKED; n++) {
+        size_t cut = n / 3;
+        uint32_t want = zlib_crc32(s, n);
+        if (chip_crc32(s, n) != want) fail("crc32", n);
+        if (~chip_crc32_run(chip_crc32_run(~0u, s, cut), s + cut, n - cut) != want) fail("crc32_run", n);
+        if (chip_crc8(s, n) != table_crc8(s, n)) fail("crc8", n);
+        if (chip_crc8_run(chip_crc8(s, cut), s + cut, n - cut) != table_crc8(s, n)) fail("crc8_run", n);
+        memcpy(blank, s, n);
+        for (size_t i = 0x14; i < 0x18 && i < n; i++) {
+            blank[i] = 0;
+        }
+        if (chip_crc32_field_as_zero(s, n) != zlib_crc32(blank, n)) fail("crc32_field_as_zero", n);
+    }
+    printf("lengths 0 to %d: the values of zlib and of the table loop\n", CHECKED - 1);
+}
+
+int main(void) {
+    uint8_t *s = malloc(LONGEST + 1);
+    if (!s) return 1;
+    uint64_t x = 88172645463325252u;
+    for (size_t i = 0; i < LONGEST + 1; i++) {
+        x ^= x << 13;
+        x ^= x >> 7;
+        x ^= x << 17;
+        s[i] = (uint8_t)x;
+    }
+    make_table();
+    check(s + 1);
+    static const size_t sizes[] = {16, 64, 255, 256, 512, 1024, 4096, 16384, 65536};
+    for (size_t k = 0; k < sizeof sizes / sizeof sizes[0]; k++) {
+        compare("crc32", "zlib's time", chip_crc32, zlib_crc32, s, sizes[k]);
+    }
+    compare("crc32_field_as_zero", "zlib's time", chip_crc32_field_as_zero, zlib_crc32, s, LONGEST);
+    compare("crc8", "a C table loop's time", our_crc8, c_crc8, s, 16);
+    compare("crc8", "a C table loop's time", our_crc8, c_crc8, s, 64);
+    compare("crc8", "a C table loop's time", our_crc8, c_crc8, s, 255);
+    compare("crc8", "a C table loop's time", our_crc8, c_crc8, s, 4096);
+    free(s);
+    return 0;
+}

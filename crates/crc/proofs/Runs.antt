@@ -1,0 +1,82 @@
+-- A run of CRC-32 over bytes: one byte by the table, and bytes all at once as the number that they spell (`run-word`), eight at a time (`run-next`).
+-- Assumes nothing.
+use mathlib.Core.Path.{_≡_, sym, ap, ap₂, _∙_}
+use mathlib.Core.List.{List, [], _∷_}
+use Prim.Native.Nat.{ℕ, zero, suc, _+_, _-_, _*_, _/_, _%_, _≤_, _<_}
+use native.Mathlib.Nat.{le-of-eq}
+use native.Mathlib.Omega.{arith}
+use lib.Bits.{bitXor, xor-comm, xor-zero-r, xor-shifted}
+use lib.ListN.{length, take, drop, take-append-drop, length-take, length-drop}
+use lib.Seq.{take-add, take-all, getD-drop}
+use Rattle.octets.specs.Bytes.{Octets, little}
+use Rattle.crc.specs.Crc32.{shifts, step32, run32}
+use Rattle.crc.specs.laws.Xor.{xor-assoc}
+use Rattle.crc.specs.laws.Crc32.{shifts-xor, shifts-add, shifts-up, run32-append}
+
+-- the low byte goes by the table, and the rest comes down eight places
+pub step-by-table : (c b : ℕ) → step32 c b ≡ bitXor (shifts 8 (bitXor c b % 256)) (bitXor c b / 256)
+unfolding step32
+step-by-table c b =
+    let x : ℕ = bitXor c b in
+    let e : x ≡ x / 256 * 256 + x % 256 = omega arith in
+    ap (shifts 8) (e ∙ sym (xor-shifted (x / 256) 8 (x % 256) (omega arith)) ∙ xor-comm (x / 256 * 256) (x % 256))
+    ∙ shifts-xor 8 (x % 256) (x / 256 * 256)
+    ∙ ap (bitXor (shifts 8 (x % 256))) (shifts-up 8 (x / 256))
+
+-- a byte, and what stands above it
+step-word : (c b w : ℕ) → b < 256 → bitXor (step32 c b) w ≡ shifts 8 (bitXor c (b + 256 * w))
+unfolding step32
+step-word c b w h =
+    let e : w * 256 + b ≡ b + 256 * w = omega arith in
+    ap (bitXor (shifts 8 (bitXor c b))) (sym (shifts-up 8 w))
+    ∙ sym (shifts-xor 8 (bitXor c b) (w * 256))
+    ∙ ap (shifts 8) (xor-assoc c b (w * 256) ∙ ap (bitXor c) (xor-comm b (w * 256) ∙ xor-shifted w 8 b h ∙ e))
+
+-- the bytes may be added all at once
+run-word : (bs : List ℕ) → Octets bs → (c : ℕ) → run32 c bs ≡ shifts (8 * length bs) (bitXor c (little bs))
+unfolding shifts
+run-word [] h c = sym (xor-zero-r c)
+run-word (b ∷ bs) h c =
+    let e : 8 + 8 * length bs ≡ 8 * suc (length bs) = omega arith in
+    run-word bs (λ p. h (suc p)) (step32 c b)
+    ∙ ap (shifts (8 * length bs)) (step-word c b (little bs) (h zero))
+    ∙ sym (shifts-add 8 (8 * length bs) (bitXor c (b + 256 * little bs)))
+    ∙ ap (λ (k : ℕ). shifts k (bitXor c (b + 256 * little bs))) e
+
+-- a part of bytes is bytes
+octets-take : (n : ℕ) (s : List ℕ) → Octets s → Octets (take n s)
+octets-take zero s h p = omega arith
+octets-take (suc n) [] h p = omega arith
+octets-take (suc n) (b ∷ s) h zero = h zero
+octets-take (suc n) (b ∷ s) h (suc p) = octets-take n s (λ k. h (suc k)) p
+
+octets-drop : (i : ℕ) (s : List ℕ) → Octets s → Octets (drop i s)
+octets-drop i s h p = rw getD-drop (h (i + p))
+
+-- the number that eight bytes spell from i on
+abbrev pub at8 : List ℕ → ℕ → ℕ
+at8 s i = little (take 8 (drop i s))
+
+-- eight bytes from i on
+pub run-eight : (c : ℕ) (s : List ℕ) (i : ℕ) → i + 8 ≤ length s → Octets s → run32 c (take 8 (drop i s)) ≡ shifts 64 (bitXor c (at8 s i))
+run-eight c s i h o =
+    let e : length (take 8 (drop i s)) ≡ 8 = simp (length-take, length-drop) (omega arith) in
+    run-word (take 8 (drop i s)) (octets-take 8 (drop i s) (octets-drop i s o)) c
+    ∙ ap (λ (n : ℕ). shifts (8 * n) (bitXor c (at8 s i))) e
+
+-- eight bytes more, from i to j
+pub run-next : (c : ℕ) (s : List ℕ) (i j R : ℕ) → i + 8 ≡ j → j ≤ length s → Octets s → run32 c (take i s) ≡ R
+    → run32 c (take j s) ≡ shifts 64 (bitXor R (at8 s i))
+run-next c s i j R e h o p =
+    ap (λ (n : ℕ). run32 c (take n s)) (sym e)
+    ∙ ap (run32 c) (take-add i 8 s) ∙ run32-append c (take i s) (take 8 (drop i s))
+    ∙ run-eight (run32 c (take i s)) s i (omega arith) o
+    ∙ ap (λ (x : ℕ). shifts 64 (bitXor x (at8 s i))) p
+
+-- the part from k on is what is left
+pub part-rest : (s : List ℕ) (k : ℕ) → take (length s - k) (drop k s) ≡ drop k s
+part-rest s k = take-all (length s - k) (drop k s) (le-of-eq (length-drop k s))
+
+-- a run to k, and on from there
+pub run-on : (c r : ℕ) (s tail : List ℕ) (k : ℕ) → r ≡ run32 c (take k s) → tail ≡ drop k s → run32 r tail ≡ run32 c s
+run-on c r s tail k p e = ap₂ run32 p e ∙ sym (run32-append c (take k s) (drop k s)) ∙ ap (run32 c) (take-append-drop k s)

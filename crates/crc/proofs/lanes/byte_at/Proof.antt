@@ -1,0 +1,18 @@
+-- `crc::lanes::byte_at` meets its contract. A byte of the slice is below 256, which the slice's rule says.
+-- Assumes nothing.
+use borrow.Author.Needs.{needs}
+use native.Mathlib.Omega.{arith}
+use Rattle.crc.proofs.lanes.byte_at.Statement.{statement}
+use Rattle.crc.proofs.lanes.byte_at.Tie as tie
+
+shared-slice-read-result : tie.Need-shared-slice-read-result
+shared-slice-read-result c = search needs
+
+cast-result : tie.Need-cast-result
+cast-result c = omega (arith, c .shared-slice-known .given (c .before .args .i))
+
+returns : tie.Need-returns
+returns c = omega (arith, c .shared-slice-known .given (c .before .args .i))
+
+pub byte-at-spec : {M : Type 1} → statement M
+byte-at-spec = tie.close (tie.spec shared-slice-read-result cast-result returns)

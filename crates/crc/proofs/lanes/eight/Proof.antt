@@ -1,0 +1,43 @@
+-- `crc::lanes::eight` meets its contract. The part from i to i + 8 is eight bytes.
+-- Assumes nothing.
+use borrow.Author.Needs.{needs}
+use native.Mathlib.Omega.{arith}
+use mathlib.Core.Path.{_≡_, ap, _∙_}
+use denote.Ref.{now}
+use Prim.Native.Nat.{ℕ, _+_, _-_}
+use lib.ListN.{take, drop}
+use Rattle.crc.specs.Crc32.{run32}
+use Rattle.crc.proofs.lanes.eight.Statement.{statement}
+use Rattle.crc.proofs.lanes.eight.Tie as tie
+
+add-e : tie.Need-add-e
+add-e c = search needs
+
+sub-run-bytes : tie.Need-sub-run-bytes
+sub-run-bytes c = search needs
+
+part-run-bytes-start : tie.Need-part-run-bytes-start
+part-run-bytes-start c = search needs
+
+part-run-bytes-end : tie.Need-part-run-bytes-end
+part-run-bytes-end c = search needs
+
+run-bytes-requires : tie.Need-run-bytes-requires
+run-bytes-requires c κs = search needs
+
+returns : tie.Need-returns
+returns c =
+    let start = c .before .before .before in
+    let size : start .args .i + 8 - start .args .i ≡ 8 = omega arith in
+    c .run-bytes .ensures ∙ ap (λ (n : ℕ). run32 (start .args .c) (take n (drop (start .args .i) (now (start .args .s))))) size
+
+pub eight-spec : {M : Type 1} → statement M
+eight-spec =
+    tie.close
+    (tie.spec
+    add-e
+    sub-run-bytes
+    part-run-bytes-start
+    part-run-bytes-end
+    run-bytes-requires
+    returns)

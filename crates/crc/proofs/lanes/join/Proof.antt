@@ -1,0 +1,62 @@
+-- `crc::lanes::join` meets its contract. Each lane takes eight bytes, and they come together (`lanes-end`); the rest goes on from there.
+-- Assumes nothing.
+use borrow.Author.Needs.{needs}
+use native.Mathlib.Omega.{arith}
+use mathlib.Core.Path.{_∙_}
+use denote.Ref.{now}
+use Prim.Native.Nat.{_-_}
+use lib.ListN.{length, take, drop}
+use Rattle.crc.proofs.Stand.{lanes-end}
+use Rattle.crc.proofs.Runs.{run-on, part-rest}
+use Rattle.crc.proofs.lanes.join.Statement.{statement}
+use Rattle.crc.proofs.lanes.join.Tie as tie
+
+eight-requires : tie.Need-eight-requires
+eight-requires c κs = search needs
+
+eight-requires-2 : tie.Need-eight-requires-2
+eight-requires-2 c κs = search needs
+
+eight-requires-3 : tie.Need-eight-requires-3
+eight-requires-3 c κs = search needs
+
+eight-requires-4 : tie.Need-eight-requires-4
+eight-requires-4 c κs = search needs
+
+sub-run-bytes : tie.Need-sub-run-bytes
+sub-run-bytes c = search needs
+
+part-run-bytes-start : tie.Need-part-run-bytes-start
+part-run-bytes-start c = search needs
+
+part-run-bytes-end : tie.Need-part-run-bytes-end
+part-run-bytes-end c = search needs
+
+run-bytes-requires : tie.Need-run-bytes-requires
+run-bytes-requires c κs = search needs
+
+returns : tie.Need-returns
+returns c = λ R st.
+    let start = c .before .before .before .before .before .before .before in
+    let s = now (start .args .s) in
+    c .run-bytes .ensures
+    ∙ run-on R (c .before .before .eight4 .result) s (take (length s - 32) (drop 32 s)) 32
+    (lanes-end R s 0 (start .args .a0) (start .args .a1) (start .args .a2) (start .args .a3) (omega arith)
+    (λ k. omega (arith, c .before .before .before .before .before .before .shared-slice-known .given k)) st _ _ _ _
+    (c .before .before .before .before .before .eight .ensures) (c .before .before .before .before .eight2 .ensures) (c .before .before .before .eight3 .ensures)
+    (c .before .before .eight4 .ensures))
+    (part-rest s 32)
+
+pub join-spec : {M : Type 1} → statement M
+join-spec =
+    tie.close
+    (tie.spec
+    eight-requires
+    eight-requires-2
+    eight-requires-3
+    eight-requires-4
+    sub-run-bytes
+    part-run-bytes-start
+    part-run-bytes-end
+    run-bytes-requires
+    returns)

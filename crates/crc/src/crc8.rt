@@ -1,0 +1,46 @@
+// CRC-8 (x^8 + x^2 + x + 1), a byte at a time by a table of what eight zero bits make of each byte.
+use super::tables::spread;
+ghost use mathlib.Core.Path.{_≡_};
+ghost use Rattle.crc.specs.Crc8.{eightZeros, step8, run8};
+ghost use Rattle.crc.specs.Tables.{Table};
+
+// What eight zero bits make of each single bit.
+const BASIS: [u32; 8] = [0x07, 0x0E, 0x1C, 0x38, 0x70, 0xE0, 0xC7, 0x89];
+
+// One byte more.
+fn step(t: &[u32; 256], c: u8, b: u8) -> u8
+    requires { ⌜ Table eightZeros 256 (now t) ⌝ }
+    ensures { λ r. ⌜ r ≡ step8 c b ⌝ }
+{
+    t[(c ^ b) as usize] as u8
+}
+
+// The bytes of s, one after the other.
+fn run_bytes(t: &[u32; 256], c: u8, s: &[u8]) -> u8
+    requires { ⌜ Table eightZeros 256 (now t) ⌝ }
+    ensures { λ r. ⌜ r ≡ run8 c (now (s .entry)) ⌝ }
+{
+    let mut r = c;
+    let mut i = 0;
+    while i < s.len() {
+        r = step(t, r, s[i]);
+        i += 1;
+    }
+    r
+}
+
+// The check value after the bytes of s, from the check value c of those before them: for a message that comes in parts.
+pub fn crc8_run(c: u8, s: &[u8]) -> u8
+    ensures { λ r. ⌜ r ≡ run8 c (now (s .entry)) ⌝ }
+{
+    let mut t = [0u32; 256];
+    spread(&mut t, &BASIS);
+    run_bytes(&t, c, s)
+}
+
+// The check value of s.
+pub fn crc8(s: &[u8]) -> u8
+    ensures { λ r. ⌜ r ≡ Rattle.crc.specs.Crc8.crc8 (now (s .entry)) ⌝ }
+{
+    crc8_run(0, s)
+}

@@ -1,0 +1,6 @@
+// Cyclic redundancy checks: CRC-8 (x^8 + x^2 + x + 1, highest bit first) and CRC-32 (IEEE 802.3).
+mod bytewise;
+pub mod crc32;
+pub mod crc8;
+mod lanes;
+mod tables;
