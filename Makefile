@@ -14,8 +14,8 @@ check: ## prove what has changed since it was last proved, and run the programs
 
 bench: ## time the CRCs against zlib's and against a plain C loop (no test)
 	@echo '#include <zlib.h>' | $(CC) -E - >/dev/null 2>&1 || { echo "bench: zlib.h is missing: install the package zlib1g-dev"; exit 1; }
-	@rt staticlib crc_c >/dev/null
 	@mkdir -p $(BENCH_DIR)
+	@rt staticlib crc_c >$(BENCH_DIR)/log 2>&1 || { cat $(BENCH_DIR)/log; exit 1; }
 	@$(CC) -O3 -Wall -Wextra -o $(BENCH_DIR)/crc bench/crc.c target/staticlib/libcrc_c.a -lz
 	@$(BENCH_DIR)/crc
 

@@ -1,7 +1,5 @@
 // Compares the exported CRC functions with zlib's crc32 and with a plain table loop for CRC-8: first their values, then their times.
-//
-// Build, after `rt staticlib crc_c` (zlib's header and library are needed):
-//     clang -O3 bench/bench.c target/staticlib/libcrc_c.a -lz -o target/bench
+// `make bench` builds and runs it. It is no test: times depend on the machine and on what else it does.
 #include <stdint.h>
 #include <stdio.h>
 #include <stdlib.h>

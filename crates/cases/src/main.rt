@@ -1,4 +1,5 @@
-// Prints check values, one to a line, to be compared with published ones and with those of other programs.
+// Prints check values, one to a line. The file stdout beside it has what they must be: values of published catalogues, the check bytes of
+// the build paper's images, and for the pattern those of another program (zlib, and a bitwise CRC-8).
 use crc::crc8;
 use crc::crc32;
 use libc::STDOUT_FILENO;
@@ -24,11 +25,11 @@ fn hex(out: &mut [u8], x: u32) {
     }
 }
 
-// One line: the name of a case, and x in as many digits as out has place for.
+// One line: the name of a case, a colon, and x in as many digits as out has place for.
 fn line(name: &[u8], out: &mut [u8], x: u32) {
     hex(out, x);
     io::write_all(STDOUT_FILENO, name);
-    io::write_all(STDOUT_FILENO, b" ");
+    io::write_all(STDOUT_FILENO, b": ");
     io::write_all(STDOUT_FILENO, out);
     io::write_all(STDOUT_FILENO, b"\n");
 }
