@@ -1,4 +1,4 @@
-# The front door. `make help` lists what there is.
+# Everything that can be typed here; `make help` lists it.
 .PHONY: help test check bench fmt
 
 BENCH_DIR := target/bench
@@ -13,6 +13,7 @@ check: ## prove what has changed since it was last proved, and run the programs
 	@rt check
 
 bench: ## time the CRCs against zlib's and against a plain C loop (no test)
+	@command -v $(CC) >/dev/null || { echo "bench: no C compiler: $(CC) is not found"; exit 1; }
 	@echo '#include <zlib.h>' | $(CC) -E - >/dev/null 2>&1 || { echo "bench: zlib.h is missing: install the package zlib1g-dev"; exit 1; }
 	@mkdir -p $(BENCH_DIR)
 	@rt staticlib crc_c >$(BENCH_DIR)/log 2>&1 || { cat $(BENCH_DIR)/log; exit 1; }

@@ -14,7 +14,7 @@ fn digit(n: u32) -> u8
     if d < 10 { d + 48 } else { d + 55 }
 }
 
-// The last digits of x, so many as out has place for.
+// The last digits of x, as many as out has room for.
 fn hex(out: &mut [u8], x: u32) {
     let mut y = x;
     let mut i = out.len();
@@ -25,7 +25,7 @@ fn hex(out: &mut [u8], x: u32) {
     }
 }
 
-// One line: the name of a case, a colon, and x in as many digits as out has place for.
+// One line: the name of a case, a colon, and x in as many digits as out has room for.
 fn line(name: &[u8], out: &mut [u8], x: u32) {
     hex(out, x);
     io::write_all(STDOUT_FILENO, name);

@@ -1,12 +1,12 @@
 -- What the definitions give on small examples, by computation. Assumes nothing.
-use Prim.Native.Nat.{ℕ, _+_}
+use Prim.Native.Nat.{_+_}
 use mathlib.Core.List.{[], _∷_}
 use mathlib.Core.Path.{_≡_, refl}
 use lib.Dec.{leb}
 use Rattle.chain.specs.Chain.{visit, chain, ahead, range}
+use Rattle.chain.specs.Fill.{tab, filled}
 use Rattle.chain.specs.First.{when, first}
 use Rattle.chain.specs.Nth.{nth}
-use Rattle.chain.specs.Fill.{tab, filled}
 use Rattle.chain.specs.declared.Found.the-variants.{At, Nothing}
 
 -- items of two bytes from place 1 on: the last one may pass the end, and none starts there

@@ -1,4 +1,5 @@
 -- What is proved of the definitions. Assumes nothing.
+
 pub mod Below
 pub mod All
 pub mod Chain
@@ -8,5 +9,6 @@ pub mod First
 pub mod Loops
 pub mod Nth
 pub mod Ranges
+pub mod Smallest
 pub mod Steps
 pub mod Fill

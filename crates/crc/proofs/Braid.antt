@@ -1,4 +1,4 @@
--- Lanes. A message of n words, eight bytes each, is run by `chain`: each word is added to the register, which is then shifted by 64 bits. With lanes the
+-- Lanes. A message of n words, eight bytes each, is run by `sequence`: each word is added to the register, which is then shifted by 64 bits. With lanes the
 -- words go to n registers in turn, and a register is shifted at once by the 64 n bits until its next word. `mix` is what n lanes stand for. Since shifts are
 -- linear, a word may be added to its lane in place of the register (`sum`).
 -- Assumes nothing.
@@ -30,9 +30,9 @@ module _ {A : Type 0} where
   mix f (p ∷ l) = bitXor (shifts (64 * length l) (f p)) (mix f l)
 
   -- the register r after the words
-  abbrev pub chain : (A → ℕ) → ℕ → List A → ℕ
-  chain f r [] = r
-  chain f r (p ∷ l) = chain f (shifts 64 (bitXor r (f p))) l
+  abbrev pub sequence : (A → ℕ) → ℕ → List A → ℕ
+  sequence f r [] = r
+  sequence f r (p ∷ l) = sequence f (shifts 64 (bitXor r (f p))) l
 
   -- lanes of sums
   mix-xor : (f g : A → ℕ) (l : List A) → mix (λ p. bitXor (f p) (g p)) l ≡ bitXor (mix f l) (mix g l)
@@ -48,13 +48,13 @@ module _ {A : Type 0} where
       ap₂ bitXor (shifts-comm (64 * length l) m (f p)) (mix-shifts m f l) ∙ sym (shifts-xor m (shifts (64 * length l) (f p)) (mix f l))
 
   -- words one after the other are the words as lanes
-  chain-mix : (f : A → ℕ) (l : List A) (r : ℕ) → chain f r l ≡ bitXor (shifts (64 * length l) r) (shifts 64 (mix f l))
+  sequence-mix : (f : A → ℕ) (l : List A) (r : ℕ) → sequence f r l ≡ bitXor (shifts (64 * length l) r) (shifts 64 (mix f l))
   unfolding shifts
-  chain-mix f [] r = sym (ap (bitXor r) (shifts-zero 64) ∙ xor-zero-r r)
-  chain-mix f (p ∷ l) r =
+  sequence-mix f [] r = sym (ap (bitXor r) (shifts-zero 64) ∙ xor-zero-r r)
+  sequence-mix f (p ∷ l) r =
       let n = 64 * length l in
       let e : 64 + 64 * length l ≡ 64 * suc (length l) = omega arith in
-      chain-mix f l (shifts 64 (bitXor r (f p)))
+      sequence-mix f l (shifts 64 (bitXor r (f p)))
       ∙ ap (λ (x : ℕ). bitXor x (shifts 64 (mix f l)))
       (ap (shifts n) (shifts-xor 64 r (f p)) ∙ shifts-xor n (shifts 64 r) (shifts 64 (f p))
       ∙ ap₂ bitXor (sym (shifts-add 64 n r) ∙ ap (λ (k : ℕ). shifts k r) e) (shifts-comm n 64 (f p)))
@@ -64,19 +64,19 @@ module _ {A : Type 0} where
   -- R is the register that the lanes f stand for, all but one word's shift; g the next words; q the bits of all lanes but one
   module _ (f g : A → ℕ) (l : List A) (R q : ℕ) (e : q + 64 ≡ 64 * length l) (h : mix f l ≡ shifts q R) where
     -- the words may be added to the lanes
-    sum : chain g R l ≡ shifts 64 (mix (λ p. bitXor (f p) (g p)) l)
+    sum : sequence g R l ≡ shifts 64 (mix (λ p. bitXor (f p) (g p)) l)
     sum =
-        chain-mix g l R
+        sequence-mix g l R
         ∙ ap (λ (x : ℕ). bitXor x (shifts 64 (mix g l))) (ap (λ (k : ℕ). shifts k R) (sym e) ∙ shifts-add q 64 R ∙ ap (shifts 64) (sym h))
         ∙ sym (shifts-xor 64 (mix f l) (mix g l)) ∙ ap (shifts 64) (sym (mix-xor f g l))
 
     -- the words are added to the lanes, and each lane is shifted by them all
-    pub braid-turn : mix (λ p. shifts (64 + q) (bitXor (f p) (g p))) l ≡ shifts q (chain g R l)
+    pub braid-turn : mix (λ p. shifts (64 + q) (bitXor (f p) (g p))) l ≡ shifts q (sequence g R l)
     braid-turn =
         mix-shifts (64 + q) (λ p. bitXor (f p) (g p)) l ∙ shifts-add 64 q (mix (λ p. bitXor (f p) (g p)) l) ∙ ap (shifts q) (sym sum)
 
     -- the lanes come together
-    pub braid-end : chain (λ p. bitXor (f p) (g p)) 0 l ≡ chain g R l
+    pub braid-end : sequence (λ p. bitXor (f p) (g p)) 0 l ≡ sequence g R l
     braid-end =
-        chain-mix (λ p. bitXor (f p) (g p)) l 0
+        sequence-mix (λ p. bitXor (f p) (g p)) l 0
         ∙ ap (λ (x : ℕ). bitXor x (shifts 64 (mix (λ p. bitXor (f p) (g p)) l))) (shifts-zero (64 * length l)) ∙ sym sum

@@ -1,15 +1,15 @@
 -- A run of CRC-32 over a list with four bytes counted as zero, in three parts: before the field, so many zeros as the list has of it, and behind it.
 -- The parts' ends are cut to the list's length.
 -- Assumes nothing.
-use mathlib.Core.Path.{_≡_, refl, sym, ap, ap₂, _∙_}
-use mathlib.Core.List.{List, [], _∷_, _++_, map}
 use Prim.Native.Nat.{ℕ, zero, suc, _-_, min}
+use mathlib.Core.List.{List, [], _∷_, map}
+use mathlib.Core.Path.{_≡_, refl, sym, ap, ap₂, _∙_}
 use native.Mathlib.Nat.{zero-min, min-zero, suc-min-suc, sub-zero}
 use native.Mathlib.Omega.{arith}
 use lib.ListN.{length, take, drop, replicate, length-take, length-drop}
 use Rattle.crc.specs.Blank.{blank}
-use Rattle.crc.specs.Crc32.{run32}
-use Rattle.crc.specs.laws.Crc32.{run32-append}
+use Rattle.crc.specs.Crc32.{step32, run32}
+use Rattle.crc.specs.laws.Blank.{fold-blank}
 use Rattle.crc.proofs.Runs.{part-rest}
 
 -- an end that is cut to the length
@@ -48,5 +48,4 @@ module _ (at end : ℕ) (s : List ℕ) (ha : at ≡ min 20 (length s)) (he : end
       → r ≡ run32 b (take (length s - end) (drop end s)) → r ≡ run32 c (blank 20 4 s)
   run-blank c a b r pa pb pr =
       pr ∙ ap₂ run32 (pb ∙ ap₂ run32 (pa ∙ ap (run32 c) before) field) behind
-      ∙ sym (run32-append (run32 c (take 20 s)) (map (λ b. 0) (take 4 (drop 20 s))) (drop 24 s))
-      ∙ sym (run32-append c (take 20 s) (map (λ b. 0) (take 4 (drop 20 s)) ++ drop 24 s))
+      ∙ sym (fold-blank step32 c 20 4 s)

@@ -1,17 +1,18 @@
 -- A run of CRC-32 over bytes: one byte by the table, and bytes all at once as the number that they spell (`run-word`), eight at a time (`run-next`).
 -- Assumes nothing.
-use mathlib.Core.Path.{_≡_, sym, ap, ap₂, _∙_}
-use mathlib.Core.List.{List, [], _∷_}
 use Prim.Native.Nat.{ℕ, zero, suc, _+_, _-_, _*_, _/_, _%_, _≤_, _<_}
+use mathlib.Core.List.{List, [], _∷_}
+use mathlib.Core.Path.{_≡_, sym, ap, ap₂, _∙_}
 use native.Mathlib.Nat.{le-of-eq}
 use native.Mathlib.Omega.{arith}
 use lib.Bits.{bitXor, xor-comm, xor-zero-r, xor-shifted}
 use lib.ListN.{length, take, drop, take-append-drop, length-take, length-drop}
-use lib.Seq.{take-add, take-all, getD-drop}
+use lib.Seq.{take-add, take-all}
 use Rattle.octets.specs.Bytes.{Octets, little}
+use Rattle.octets.specs.laws.Bytes.{octets-take, octets-drop}
 use Rattle.crc.specs.Crc32.{shifts, step32, run32}
-use Rattle.crc.specs.laws.Xor.{xor-assoc}
 use Rattle.crc.specs.laws.Crc32.{shifts-xor, shifts-add, shifts-up, run32-append}
+use Rattle.crc.specs.laws.Xor.{xor-assoc}
 
 -- the low byte goes by the table, and the rest comes down eight places
 pub step-by-table : (c b : ℕ) → step32 c b ≡ bitXor (shifts 8 (bitXor c b % 256)) (bitXor c b / 256)
@@ -42,16 +43,6 @@ run-word (b ∷ bs) h c =
     ∙ ap (shifts (8 * length bs)) (step-word c b (little bs) (h zero))
     ∙ sym (shifts-add 8 (8 * length bs) (bitXor c (b + 256 * little bs)))
     ∙ ap (λ (k : ℕ). shifts k (bitXor c (b + 256 * little bs))) e
-
--- a part of bytes is bytes
-octets-take : (n : ℕ) (s : List ℕ) → Octets s → Octets (take n s)
-octets-take zero s h p = omega arith
-octets-take (suc n) [] h p = omega arith
-octets-take (suc n) (b ∷ s) h zero = h zero
-octets-take (suc n) (b ∷ s) h (suc p) = octets-take n s (λ k. h (suc k)) p
-
-octets-drop : (i : ℕ) (s : List ℕ) → Octets s → Octets (drop i s)
-octets-drop i s h p = rw getD-drop (h (i + p))
 
 -- the number that eight bytes spell from i on
 abbrev pub at8 : List ℕ → ℕ → ℕ

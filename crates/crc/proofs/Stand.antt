@@ -10,7 +10,7 @@ use Rattle.octets.specs.Bytes.{Octets}
 use Rattle.crc.specs.Crc32.{shifts, run32}
 use Rattle.crc.specs.Tables.{Stand}
 use Rattle.crc.specs.laws.Xor.{xor-assoc}
-use Rattle.crc.proofs.Braid.{shifts-zero, mix, chain, braid-turn, braid-end}
+use Rattle.crc.proofs.Braid.{shifts-zero, mix, sequence, braid-turn, braid-end}
 use Rattle.crc.proofs.Runs.{at8, run-eight, run-next}
 
 -- four lanes in a list
@@ -23,7 +23,7 @@ module _ (c : ℕ) (s : List ℕ) (i a0 a1 a2 a3 : ℕ) (h : i + 32 ≤ length s
   pairs : List (ℕ × ℕ)
   pairs = (a0, at8 s i) ∷ (a1, at8 s (i + 8)) ∷ (a2, at8 s (i + 16)) ∷ (a3, at8 s (i + 24)) ∷ []
 
-  run-pairs : run32 c (take (i + 32) s) ≡ chain (λ p. p .1) (run32 c (take i s)) pairs
+  run-pairs : run32 c (take (i + 32) s) ≡ sequence (λ p. p .1) (run32 c (take i s)) pairs
   unfolding pairs
   run-pairs =
       run-next c s (i + 24) (i + 32) _ (omega arith) h o

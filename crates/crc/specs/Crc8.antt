@@ -12,7 +12,7 @@ use lib.ListN.{replicate}
 abbrev pub divisor : ℕ
 divisor = 0b1_0000_0111
 
--- the quotient's next digit is the coefficient of x^8, 0 or 1, and so many times the divisor is taken away
+-- the quotient's next digit is the coefficient of x^8, 0 or 1, and that many times the divisor is taken away
 unfoldable pub reduce : ℕ → ℕ
 reduce n = bitXor n (n / 2 ^ 8 * divisor)
 
@@ -33,7 +33,7 @@ unfoldable pub bitsOfAll : List ℕ → List ℕ
 bitsOfAll [] = []
 bitsOfAll (b ∷ bs) = bitsOf b ++ bitsOfAll bs
 
--- the check value: the remainder of the message with eight zero bits behind it
+-- the check value: the remainder of the message with eight zero bits after it
 unfoldable pub crc8 : List ℕ → ℕ
 crc8 bs = divide 0 (bitsOfAll bs ++ replicate 8 0)
 

@@ -1,8 +1,10 @@
 -- Lists by their numbers, by computation. Assumes nothing.
-use mathlib.Core.Bool.{true, false}
+use mathlib.Core.Bool.{false}
+use mathlib.Core.List.{[], _∷_}
 use mathlib.Core.Path.{_≡_, refl}
+use Rattle.octets.specs.Bytes.{little}
 use Rattle.kinds.specs.Kinds.{listed, all, full, bare, extended, fromBits}
-use Rattle.kinds.specs.Signatures.{acpiTbl, video, eeprom}
+use Rattle.kinds.specs.Signatures.{acpiTbl, video}
 use Rattle.kinds.specs.declared.Kind.the-variants.{Tag, Signature}
 
 all-seventeen : fromBits 0x1FFFF ≡ full
@@ -25,11 +27,11 @@ last-bit : fromBits 0x10000 ≡ extended bare (Signature video)
 unfolding fromBits extended all
 last-bit = refl
 
--- a tag that is none of the eight, and a structure that is none of the nine, are on no list
+-- a tag that is none of the eight is on no list, and neither is `$Logo$` with spaces after it
 no-tag : listed full (Tag 0x12) ≡ false
 unfolding listed all
 no-tag = refl
 
-no-structure : listed full (Signature eeprom) ≡ false
+no-structure : listed full (Signature (little (0x24 ∷ 0x4C ∷ 0x6F ∷ 0x67 ∷ 0x6F ∷ 0x24 ∷ 0x20 ∷ 0x20 ∷ []))) ≡ false
 unfolding listed all
 no-structure = refl

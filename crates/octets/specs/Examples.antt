@@ -1,6 +1,6 @@
 -- What the definitions give on small examples, by computation: numbers, runs, and labels good and bad. Assumes nothing.
 use Prim.Native.Nat.{ℕ}
-use mathlib.Core.Bool.{true, false}
+use mathlib.Core.Bool.{true}
 use mathlib.Core.List.{List, [], _∷_, _++_}
 use mathlib.Core.Path.{_≡_, refl}
 use lib.ListN.{replicate}
@@ -9,8 +9,8 @@ use Rattle.chain.specs.Fill.{tab}
 use Rattle.chain.specs.First.{first}
 use Rattle.chain.specs.declared.Found.the-variants.{At, Nothing}
 use Rattle.octets.specs.Bytes.{le16, le32}
-use Rattle.octets.specs.Runs.{difference, sameRun, nonzero}
 use Rattle.octets.specs.Label.{isText, isLabelText, textEnd, badLabel}
+use Rattle.octets.specs.Runs.{difference, sameRun, nonzero}
 
 -- the first byte is the lowest; past the end a byte reads as 0
 number : le16 (0x00 ∷ 0x34 ∷ 0x12 ∷ []) 1 ≡ 0x1234

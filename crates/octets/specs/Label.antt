@@ -26,12 +26,13 @@ dollar = 0x24
 unfoldable pub isLabelText : ℕ → Bool
 isLabelText b = isText b && not (eqb b dollar)
 
--- the offset at which the text of the label at p ends, if it does before the sixteen bytes do
-abbrev pub noText : List ℕ → ℕ → ℕ → Found
-noText s p i = when (not (isLabelText (byte s (p + i)))) i
+-- whether the byte at offset i of the label at p is no such character
+abbrev pub noText : List ℕ → ℕ → ℕ → Bool
+noText s p i = not (isLabelText (byte s (p + i)))
 
+-- the offset at which the text ends, if it does before the sixteen bytes do
 unfoldable pub textEnd : List ℕ → ℕ → Found
-textEnd s p = first (noText s p) (range 0 16)
+textEnd s p = first (λ i. when (noText s p i) i) (range 0 16)
 
 -- from there on: '$', and zeros
 abbrev pub afterText : List ℕ → ℕ → Found → Found
@@ -42,9 +43,9 @@ afterText s p Nothing = Nothing
 unfoldable pub badLabel : List ℕ → ℕ → Found
 badLabel s p = afterText s p (textEnd s p)
 
--- ---- The paper's sentence of sixteen bytes l. `laws.Label` proves that the bad byte is the first that no good label with the same beginning has.
+-- ---- The paper's sentence of sixteen bytes l. `laws/LabelGood` and `laws/LabelBad` prove that the bad byte is the first that no good label with the same beginning has.
 
--- '$' after so many characters, and then zeros
+-- '$' after `text` characters, and then zeros
 pub record Ended (l : List ℕ) (text : ℕ) : Type 0 where
   pub room : text < 16
   pub mark : byte l text ≡ dollar

@@ -50,14 +50,15 @@ eightAt s p = eight (run s p 8)
 unfoldable pub sixteenAt : List ℕ → ℕ → Sixteen
 sixteenAt s p = sixteen (run s p 16)
 
--- the first offset at which two runs of n bytes differ, a's from p on and b's from q on
-abbrev pub differs : List ℕ → ℕ → List ℕ → ℕ → ℕ → Found
-differs a p b q i = when (not (eqb (byte a (p + i)) (byte b (q + i)))) i
+-- whether two runs differ at offset i: a's from p on, and b's from q on
+abbrev pub apart : List ℕ → ℕ → List ℕ → ℕ → ℕ → Bool
+apart a p b q i = not (eqb (byte a (p + i)) (byte b (q + i)))
 
+-- the first of n offsets at which they differ
 unfoldable pub difference : List ℕ → ℕ → List ℕ → ℕ → ℕ → Found
-difference a p b q n = first (differs a p b q) (range 0 n)
+difference a p b q n = first (λ i. when (apart a p b q i) i) (range 0 n)
 
--- whether they are equal: there is no such offset
+-- whether two runs of n bytes are equal: there is no such offset
 abbrev pub isNothing : Found → Bool
 isNothing (At i) = false
 isNothing Nothing = true
@@ -65,9 +66,10 @@ isNothing Nothing = true
 unfoldable pub sameRun : List ℕ → ℕ → List ℕ → ℕ → ℕ → Bool
 sameRun a p b q n = isNothing (difference a p b q n)
 
--- the first byte that is not zero, of those from `from` up to `to` places after p
-abbrev pub isNonzero : List ℕ → ℕ → ℕ → Found
-isNonzero s p i = when (not (eqb (byte s (p + i)) 0)) (p + i)
+-- whether the byte at offset i from p is not zero
+abbrev pub isSet : List ℕ → ℕ → ℕ → Bool
+isSet s p i = not (eqb (byte s (p + i)) 0)
 
+-- the place of the first such byte, of the offsets from `from` up to `to`
 unfoldable pub nonzero : List ℕ → ℕ → ℕ → ℕ → Found
-nonzero s p from to = first (isNonzero s p) (range from to)
+nonzero s p from to = first (λ i. when (isSet s p i) (p + i)) (range from to)

@@ -1,6 +1,8 @@
 -- What is proved of the definitions. Assumes nothing.
+
 pub mod Bytes
 pub mod Runs
 pub mod Label
-pub mod LabelRule
+pub mod LabelGood
+pub mod LabelBad
 pub mod Same

@@ -16,18 +16,20 @@ chain-agree next other end grows rises =
     let b : All (λ q. next q ≡ other q) (p ∷ chain next end (next p)) = rw (chain-more next end grows p h) at a in
     chain-more next end grows p h ∙ ap (λ (l : List ℕ). p ∷ l) (ih (b .1) ∙ ap (chain other end) (b .0)) ∙ sym (chain-more other end rises p h))
 
--- the chain up to an earlier end, and what follows: a chain again, from a place at or past the earlier end
+-- the chain up to an earlier end, and what follows: a chain again, from a place at or past the start and the earlier end
 pub record Prefix (next : ℕ → ℕ) (early end p : ℕ) : Type 0 where
   pub place : ℕ
+  pub from : p ≤ place
   pub past : early ≤ place
   pub split : chain next end p ≡ chain next early p ++ chain next end place
 
 pub chain-prefix : (next : ℕ → ℕ) (early end : ℕ) → ((p : ℕ) → p < next p) → early ≤ end → (p : ℕ) → Prefix next early end p
 chain-prefix next early end grows le =
     chain-ind next early grows (Prefix next early end)
-    (λ p h. record { place = p; past = h; split = rw (chain-end next early grows p h) })
+    (λ p h. record { place = p; from = omega arith; past = h; split = rw (chain-end next early grows p h) })
     (λ p h ih. record {
       place = ih .place;
+      from = omega (arith, ih .from, grows p);
       past = ih .past;
       split =
           chain-more next end grows p (omega arith) ∙ ap (λ (l : List ℕ). p ∷ l) (ih .split)

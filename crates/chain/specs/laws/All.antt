@@ -1,6 +1,6 @@
 -- What holds of each element of a list: got from what holds of everything or of something stronger, and used at a number. Assumes nothing.
 use Prim.Native.Nat.{ℕ, zero, suc, _<_}
-use mathlib.Core.List.{List, [], _∷_, map}
+use mathlib.Core.List.{List, [], _∷_, _++_, map}
 use mathlib.Core.Path.{_≡_, refl, ap₂}
 use native.Mathlib.Omega.{arith}
 use lib.ListN.{length, getD}
@@ -14,6 +14,10 @@ module _ {A : Type 0} where
   pub all-map : (P Q : A → Type 0) → ((x : A) → P x → Q x) → (l : List A) → All P l → All Q l
   all-map P Q f [] a = tt
   all-map P Q f (x ∷ xs) a = (f x (a .0), all-map P Q f xs (a .1))
+
+  pub all-split : (P : A → Type 0) (xs : List A) (y : A) (ys : List A) → All P (xs ++ (y ∷ ys)) → P y
+  all-split P [] y ys a = a .0
+  all-split P (x ∷ xs) y ys a = all-split P xs y ys (a .1)
 
   pub all-getD : (P : A → Type 0) (l : List A) (n : ℕ) (d : A) → All P l → n < length l → P (getD l n d)
   all-getD P [] n d a h = absurd (omega arith)

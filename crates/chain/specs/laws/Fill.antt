@@ -1,12 +1,12 @@
 -- The laws of `tab` and of a buffer that is filled from the front by a loop. Assumes nothing.
-use Prim.Native.Nat.{ℕ, zero, suc, _+_, _≤_, _<_}
+use Prim.Native.Nat.{ℕ, zero, suc, _+_, _-_, _≤_, _<_}
 use mathlib.Core.List.{List, [], _∷_, _++_, append-assoc}
 use mathlib.Core.Logic.{inl, inr}
 use mathlib.Core.Path.{_≡_, refl, sym, ap, ap₂, _∙_}
 use native.Mathlib.Numerals.{add-one}
 use native.Mathlib.Omega.{arith}
 use lib.ListN.{length, getD, drop, set, length-append, length-drop, List·getD-append}
-use lib.Seq.{drop-cons, set-at, getD-at}
+use lib.Seq.{drop-cons, set-at, getD-at, getD-append-add, getD-drop}
 use Rattle.chain.specs.Fill.{tab, filled}
 use Rattle.chain.specs.laws.Below.{below}
 
@@ -39,6 +39,20 @@ module _ {A : Type 0} where
   pub length-filled : (f : ℕ → A) (n : ℕ) (b : List A) → n ≤ length b → length (filled f n b) ≡ length b
   unfolding filled
   length-filled f n b h = simp (length-append, length-tab, length-drop) (omega arith)
+
+  -- the first n elements are f 0 to f (n - 1), and the rest is as it was
+  pub filled-front : (f : ℕ → A) (n : ℕ) (b : List A) (i : ℕ) (d : A) → i < n → getD (filled f n b) i d ≡ f i
+  unfolding filled
+  filled-front f n b i d h =
+      List·getD-append (tab f n) (drop n b) d i (omega (arith, length-tab f n)) ∙ getD-tab f n i d h
+
+  pub filled-rest : (f : ℕ → A) (n : ℕ) (b : List A) (i : ℕ) (d : A) → n ≤ i → getD (filled f n b) i d ≡ getD b i d
+  unfolding filled
+  filled-rest f n b i d h =
+      let e : i ≡ length (tab f n) + (i - n) = omega (arith, length-tab f n) in
+      let k : n + (i - n) ≡ i = omega arith in
+      ap (λ (m : ℕ). getD (tab f n ++ drop n b) m d) e ∙ getD-append-add (tab f n) (drop n b) (i - n) d
+      ∙ getD-drop n b (i - n) d ∙ ap (λ (m : ℕ). getD b m d) k
 
   -- ---- a loop that stores f i at i, with the invariant `b ≡ filled f i b₀`: its start, a turn, and its end
   pub fill-start : (f : ℕ → A) (b : List A) → b ≡ filled f 0 b

@@ -3,12 +3,13 @@
 use Prim.Native.Nat.{ℕ}
 use mathlib.Core.Bool.{Bool, true, false}
 use mathlib.Core.List.{List, [], _∷_, _++_}
-use mathlib.Core.Path.{_≡_, refl, sym, _∙_}
+use mathlib.Core.Path.{_≡_, refl, sym, ap, subst, _∙_}
 use native.Mathlib.Omega.{arith}
 use Rattle.chain.specs.All.{All}
 use Rattle.chain.specs.First.{orElse, when, first}
 use Rattle.chain.specs.declared.Found.{Found}
 use Rattle.chain.specs.declared.Found.the-variants.{At, Nothing}
+use Rattle.chain.specs.laws.All.{all-split}
 
 -- a place is not nothing
 pub at-nothing : {p : ℕ} → At p ≡ Nothing → ⊥
@@ -51,20 +52,38 @@ unfolding first
 first-none rule [] a = refl
 first-none rule (x ∷ xs) a = rw (a .0, first-none rule xs (a .1))
 
--- ---- what is found comes from an item of the list, and what holds of all its items holds of that one
-pub record Hit (rule : ℕ → Found) (P : ℕ → Type 0) (p : ℕ) : Type 0 where
+-- ---- what is found comes from an item of the list, and no item before that one breaks the rule
+pub record Hit (rule : ℕ → Found) (l : List ℕ) (p : ℕ) : Type 0 where
+  pub earlier : List ℕ
   pub item : ℕ
+  pub later : List ℕ
+  pub split : l ≡ earlier ++ (item ∷ later)
+  pub kept : All (λ x. rule x ≡ Nothing) earlier
   pub breaks : rule item ≡ At p
-  pub holds : P item
 
-pub first-hit : (rule : ℕ → Found) (P : ℕ → Type 0) (l : List ℕ) (p : ℕ) → All P l → first rule l ≡ At p → Hit rule P p
+pub first-hit : (rule : ℕ → Found) (l : List ℕ) (p : ℕ) → first rule l ≡ At p → Hit rule l p
 unfolding first
-first-hit rule P [] p a e = absurd (at-nothing (sym e))
-first-hit rule P (x ∷ xs) p a e = go (rule x) refl e (λ k. first-hit rule P xs p (a .1) k)
+first-hit rule [] p e = absurd (at-nothing (sym e))
+first-hit rule (x ∷ xs) p e = go (rule x) refl e (λ k. first-hit rule xs p k)
   where
-    go : (f : Found) → rule x ≡ f → orElse f (first rule xs) ≡ At p → (first rule xs ≡ At p → Hit rule P p) → Hit rule P p
-    go (At q) d c more = record { item = x; breaks = d ∙ c; holds = a .0 }
-    go Nothing d c more = more c
+    after : rule x ≡ Nothing → Hit rule xs p → Hit rule (x ∷ xs) p
+    after d h =
+        record {
+          earlier = x ∷ h .earlier;
+          item = h .item;
+          later = h .later;
+          split = ap (λ (l : List ℕ). x ∷ l) (h .split);
+          kept = (d, h .kept);
+          breaks = h .breaks;
+        }
+
+    go : (f : Found) → rule x ≡ f → orElse f (first rule xs) ≡ At p → (first rule xs ≡ At p → Hit rule xs p) → Hit rule (x ∷ xs) p
+    go (At q) d c more = record { earlier = []; item = x; later = xs; split = refl; kept = tt; breaks = d ∙ c }
+    go Nothing d c more = after d (more c)
+
+-- what holds of all items holds of the one found
+pub hit-holds : (rule : ℕ → Found) (P : ℕ → Type 0) (l : List ℕ) (p : ℕ) → All P l → (h : Hit rule l p) → P (h .item)
+hit-holds rule P l p a h = all-split P (h .earlier) (h .item) (h .later) (subst (All P) (h .split) a)
 
 -- ---- two rules, and two lists
 -- rules that agree along the list find the same
@@ -73,12 +92,12 @@ unfolding first
 first-agree f g [] a = refl
 first-agree f g (x ∷ xs) a = rw (a .0, first-agree f g xs (a .1))
 
--- a rule that is broken only where another is finds nothing where that one finds nothing
-pub first-weaker : (f g : ℕ → Found) (l : List ℕ) → ((x : ℕ) → f x ≡ Nothing → g x ≡ Nothing) → first f l ≡ Nothing → first g l ≡ Nothing
+-- a rule that is broken along the list only where another is finds nothing where that one finds nothing
+pub first-weaker : (f g : ℕ → Found) (l : List ℕ) → All (λ x. f x ≡ Nothing → g x ≡ Nothing) l → first f l ≡ Nothing → first g l ≡ Nothing
 unfolding first
 first-weaker f g [] w e = refl
 first-weaker f g (x ∷ xs) w e =
-    rw (w x (orElse-left (f x) (first f xs) e), first-weaker f g xs w (orElse-right (f x) (first f xs) e))
+    rw (w .0 (orElse-left (f x) (first f xs) e), first-weaker f g xs (w .1) (orElse-right (f x) (first f xs) e))
 
 pub first-append : (rule : ℕ → Found) (l m : List ℕ) → first rule (l ++ m) ≡ orElse (first rule l) (first rule m)
 unfolding first

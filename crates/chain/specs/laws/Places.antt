@@ -56,6 +56,14 @@ module _ (next : ℕ → ℕ) (end : ℕ) (grows : (p : ℕ) → p < next p) whe
   pub chain-rises : (p n : ℕ) → suc n < length (chain next end p) → getD (chain next end p) n 0 < getD (chain next end p) (suc n) 0
   chain-rises p n h = rw (place-next p n h) (grows (getD (chain next end p) n 0))
 
+  pub places-rise : (p i j : ℕ) → i < j → j < length (chain next end p) → getD (chain next end p) i 0 < getD (chain next end p) j 0
+  places-rise p i zero h k = absurd (omega arith)
+  places-rise p i (suc j) h k =
+      elim (below i j) [
+        | inl l ↦ omega (arith, places-rise p i j l (omega arith), chain-rises p j k)
+        | inr l ↦ let e : i ≡ j = omega arith in rw e (chain-rises p j k)
+      ]
+
   -- each lies at or past the start, and before the end
   pub chain-within : (p : ℕ) → All (λ q. (p ≤ q) × (q < end)) (chain next end p)
   chain-within =

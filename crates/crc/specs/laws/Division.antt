@@ -1,30 +1,17 @@
--- That `divide` of specs/Crc8.antt divides: the message is the quotient times the divisor plus the remainder, as polynomials over GF(2), and the remainder is
+-- `divide` of specs/Crc8.antt divides: the message is the quotient times the divisor plus the remainder, as polynomials over GF(2), and the remainder is
 -- of a degree below the divisor's. By induction over the bits: what stands so far is a product and a remainder.
 -- Assumes nothing.
-use mathlib.Core.Path.{_≡_, refl, sym, ap, _∙_}
-use mathlib.Core.List.{List, [], _∷_, _++_, foldl}
 use Prim.Native.Nat.{ℕ, _+_, _*_, _/_, _<_}
+use mathlib.Core.List.{List, _++_}
+use mathlib.Core.Path.{_≡_, refl, sym, ap, _∙_}
 use native.Mathlib.Nat.{add-zero}
 use native.Mathlib.Omega.{arith}
 use lib.Bits.{bitXor, xor-self, xor-zero-r, xor-block}
 use lib.ListN.{replicate}
 use Rattle.crc.specs.Crc8.{divisor, reduce, bring, divide, bitsOfAll, crc8}
-use Rattle.crc.specs.laws.Xor.{xor4}
+use Rattle.crc.specs.Division.{value, quotient, product}
 use Rattle.crc.specs.laws.Remainder.{Bits, no-bits, bit, divide-lt, zero-bits, bits-append, bits-of-all}
-
--- the polynomial whose coefficients are the bits, highest first, behind those of n
-abbrev pub value : ℕ → List ℕ → ℕ
-value n bits = foldl (λ (m b : ℕ). m * 2 + b) n bits
-
--- the quotient's digits, highest first
-abbrev pub quotient : ℕ → List ℕ → List ℕ
-quotient r [] = []
-quotient r (b ∷ bs) = (r * 2 + b) / 256 ∷ quotient (bring r b) bs
-
--- the product with the divisor, digit by digit as on paper
-abbrev pub product : ℕ → List ℕ → ℕ
-product p [] = p
-product p (q ∷ qs) = product (bitXor (p * 2) (q * divisor)) qs
+use Rattle.crc.specs.laws.Xor.{xor4}
 
 -- from a product p and a remainder r on
 divides-from : {bs : List ℕ} → Bits bs → (n p r : ℕ) → n ≡ bitXor p r → value n bs ≡ bitXor (product p (quotient r bs)) (divide r bs)
@@ -45,7 +32,7 @@ divides h = divides-from h 0 0 0 refl
 pub remainder-lt : {bs : List ℕ} → Bits bs → divide 0 bs < 256
 remainder-lt h = divide-lt h 0 (omega arith)
 
--- so a check value is the remainder of its message, eight zero bits behind it
+-- so a check value is the remainder of its message with eight zero bits after it
 pub crc8-divides : (s : List ℕ)
     → value 0 (bitsOfAll s ++ replicate 8 0) ≡ bitXor (product 0 (quotient 0 (bitsOfAll s ++ replicate 8 0))) (crc8 s)
 unfolding crc8

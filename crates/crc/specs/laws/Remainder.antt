@@ -14,7 +14,7 @@ use Rattle.crc.specs.laws.Xor.{bit-ind, odd-lt, xor4, bit-mul}
 top-bit : (n : ℕ) → n < 512 → n / 256 < 2
 top-bit n h = omega arith
 
--- of two bits
+-- exclusive or of two bits
 xor-bits : (x y : ℕ) → x < 2 → y < 2 → bitXor x y ≡ differ x y
 xor-bits x y hx hy =
     bit-ind (λ (x : ℕ). bitXor x y ≡ differ x y) refl (bit-ind (λ (y : ℕ). bitXor 1 y ≡ differ 1 y) refl refl y hy) x hx
@@ -41,7 +41,7 @@ reduce-lt n h =
     bit-ind (λ (q : ℕ). q ≡ n / 256 → bitXor n (q * divisor) < 256) (λ e. omega (arith, xor-zero-r n)) (λ e. large n h (omega arith))
     (n / 256) (top-bit n h) refl
 
--- a sum
+-- the step is additive
 reduce-xor : (a b : ℕ) → a < 512 → b < 512 → reduce (bitXor a b) ≡ bitXor (reduce a) (reduce b)
 unfolding reduce
 reduce-xor a b ha hb =
@@ -55,7 +55,7 @@ unfolding bring
 bring-xor r s x hr hs hx =
     ap reduce (sym (xor-block 1 r s 0 x (omega arith) hx)) ∙ reduce-xor (r * 2 + 0) (s * 2 + x) (omega arith) (omega arith)
 
--- and stays so
+-- a remainder with a bit brought down stays below 256
 pub bring-lt : (r x : ℕ) → r < 256 → x < 2 → bring r x < 256
 unfolding bring
 bring-lt r x hr hx = reduce-lt (r * 2 + x) (omega arith)

@@ -1,15 +1,15 @@
 -- Laws of lists of known kinds. The one induction, over the rows of a table, says what is on a list that a test picks; since a list is the one
 -- that its own test picks, the others follow from it. Assumes nothing.
 use Prim.Native.Nat.{ℕ}
-use mathlib.Core.Path.{_≡_, refl, sym, _∙_, ap, fun-ext}
 use mathlib.Core.Bool.{Bool, true, false, cond, _&&_, _||_, and-true, and-false, false≢true}
 use mathlib.Core.List.{List, [], _∷_}
-use borrow.Author.Tests.{eqb-true}
+use mathlib.Core.Path.{_≡_, refl, sym, _∙_, ap, fun-ext}
 use lib.Dec.{eqb}
+use borrow.Author.Tests.{eqb-true}
+use Rattle.kinds.specs.Kinds.{Row, marked, tags, signatures, listed, picked, all, full, bare, same, extended, Contains}
 use Rattle.kinds.specs.declared.Kind.{Kind}
 use Rattle.kinds.specs.declared.Kind.the-variants.{Tag, Signature}
 use Rattle.kinds.specs.declared.Kinds.{Kinds}
-use Rattle.kinds.specs.Kinds.{Row, marked, tags, signatures, listed, picked, all, full, bare, same, extended, Contains}
 
 -- the table with the same numbers, marked by a test
 remarked : (ℕ → Bool) → List Row → List Row
@@ -82,10 +82,13 @@ full-contains k = record { keeps = listed-full k }
 pub contains-bare : (k : Kinds) → Contains k bare
 contains-bare k = record { keeps = λ kind e. absurd (false≢true (sym (bare-lists kind) ∙ e)) }
 
--- Contains at one kind, by computation
-pub contains-tag01 : {longer shorter : Kinds} → Contains longer shorter → shorter .tag01 ≡ true → longer .tag01 ≡ true
-unfolding listed
-contains-tag01 h = h .keeps (Tag 0x01)
+-- what the longer list lacks, the shorter lacks too
+pub contains-lacks : {longer shorter : Kinds} → Contains longer shorter → (kind : Kind) → listed longer kind ≡ false → listed shorter kind ≡ false
+contains-lacks {longer} {shorter} c kind e = go (listed shorter kind) refl
+  where
+    go : (b : Bool) → listed shorter kind ≡ b → b ≡ false
+    go true d = sym (c .keeps kind d) ∙ e
+    go false d = refl
 
 pub same-eq : (a b : Kind) → same a b ≡ true → a ≡ b
 unfolding same

@@ -4,14 +4,14 @@ use mathlib.Core.Path.{_≡_, refl, sym, _∙_}
 use native.Mathlib.Omega.{arith}
 use borrow.Author.Tests.{eq-eqb, ne-eqb}
 use Rattle.chain.specs.Chain.{ahead}
-use Rattle.chain.specs.First.{search}
+use Rattle.chain.specs.First.{when, search}
 use Rattle.chain.specs.laws.Loops.{one-grows, turn, hit, done}
-use Rattle.octets.specs.Runs.{differs, difference}
+use Rattle.octets.specs.Runs.{apart, difference}
 use Rattle.octets.proofs.first_difference.Statement.{statement}
 use Rattle.octets.proofs.first_difference.Tie as tie
 
 abbrev Inv-loop : tie.InvT-loop
-Inv-loop a p b q n i₀ i = search (differs a p b q) (ahead 1) n i ≡ difference a p b q n
+Inv-loop a p b q n i₀ i = search (λ j. when (apart a p b q j) j) (ahead 1) n i ≡ difference a p b q n
 
 abbrev μ-loop : tie.MeasureT-loop
 μ-loop a p b q n i₀ i = n - i

@@ -5,15 +5,15 @@ use mathlib.Core.Path.{_≡_, refl, sym, _∙_}
 use native.Mathlib.Omega.{arith}
 use borrow.Author.Tests.{eq-eqb, ne-eqb}
 use Rattle.chain.specs.Chain.{ahead}
-use Rattle.chain.specs.First.{search}
+use Rattle.chain.specs.First.{when, search}
 use Rattle.chain.specs.laws.Loops.{one-grows, turn, hit, done}
-use Rattle.octets.specs.Runs.{isNonzero, nonzero}
+use Rattle.octets.specs.Runs.{isSet, nonzero}
 use Rattle.octets.specs.laws.Bytes.{byte-within}
 use Rattle.octets.proofs.first_nonzero.Statement.{statement}
 use Rattle.octets.proofs.first_nonzero.Tie as tie
 
 abbrev Inv-loop : tie.InvT-loop
-Inv-loop s at from to i₀ i = search (isNonzero s at) (ahead 1) to i ≡ nonzero s at from to
+Inv-loop s at from to i₀ i = search (λ j. when (isSet s at j) (at + j)) (ahead 1) to i ≡ nonzero s at from to
 
 abbrev μ-loop : tie.MeasureT-loop
 μ-loop s at from to i₀ i = to - i

@@ -2,10 +2,11 @@
 use Prim.Native.Nat.{ℕ, zero, suc, _+_, _^_, _≤_, _<_}
 use mathlib.Core.List.{List, [], _∷_}
 use mathlib.Core.Logic.{inl, inr}
-use mathlib.Core.Path.{_≡_}
+use mathlib.Core.Path.{_≡_, sym, _∙_}
 use native.Mathlib.Nat.{pow-suc}
 use native.Mathlib.Omega.{arith}
-use lib.ListN.{length, List·getD-eq-default}
+use lib.ListN.{length, take, drop, length-take, length-drop, List·getD-eq-default}
+use lib.Seq.{getD-take, getD-drop, ext-getD}
 use Rattle.chain.specs.laws.Below.{below}
 use Rattle.chain.specs.laws.Fill.{length-tab, getD-tab}
 use Rattle.octets.specs.Bytes.{byte, Octets, run, little, le16, le32, le64}
@@ -29,6 +30,25 @@ run-octets s p n h i =
       | inl k ↦ omega (arith, byte-run s p n i k, h (p + i))
       | inr k ↦ omega (arith, byte-past (run s p n) i (omega (arith, length-run s p n)))
     ]
+
+-- a part of bytes is bytes, and a run within the image is a part of it
+pub octets-take : (n : ℕ) (s : List ℕ) → Octets s → Octets (take n s)
+octets-take n s h p =
+    elim (below p n) [
+      | inl k ↦ omega (arith, getD-take n s p 0 k, h p)
+      | inr k ↦ omega (arith, byte-past (take n s) p (simp length-take (omega arith)))
+    ]
+
+pub octets-drop : (n : ℕ) (s : List ℕ) → Octets s → Octets (drop n s)
+octets-drop n s h p = rw getD-drop (h (n + p))
+
+pub run-part : (s : List ℕ) (p n : ℕ) → p + n ≤ length s → run s p n ≡ take n (drop p s)
+run-part s p n h =
+    let e : length (take n (drop p s)) ≡ n = simp (length-take, length-drop) (omega arith) in
+    ext-getD 0 (run s p n) (take n (drop p s)) (length-run s p n ∙ sym e)
+    (λ i k.
+    let l : i < n = omega (arith, length-run s p n) in
+    byte-run s p n i l ∙ sym (getD-take n (drop p s) i 0 l ∙ getD-drop p s i 0))
 
 -- n bytes spell a number below 256 ^ n
 pub little-below : (l : List ℕ) → Octets l → little l < 256 ^ length l

@@ -11,9 +11,9 @@ use borrow.Author.Tests.{leb-true, not-false, not-true}
 use Rattle.chain.specs.declared.Found.the-variants.{At, Nothing}
 use Rattle.chain.specs.laws.Below.{below}
 use Rattle.chain.specs.laws.Ranges.{Least, range-least, range-none, least-range, none-range}
-use Rattle.octets.specs.Bytes.{byte}
-use Rattle.octets.specs.Label.{isText, isLabelText, dollar, textEnd}
-use Rattle.octets.specs.laws.Bytes.{byte-within}
+use Rattle.octets.specs.Bytes.{byte, run}
+use Rattle.octets.specs.Label.{isText, isLabelText, dollar, noText, textEnd}
+use Rattle.octets.specs.laws.Bytes.{byte-within, byte-run}
 
 -- '$' is no text
 pub dollar-text : (b : ℕ) → b ≡ dollar → isLabelText b ≡ false
@@ -30,41 +30,44 @@ text-nonzero b e = go (leb 0x20 b) refl e
     go false d e = let z : _≡_ {A = ℕ} 0 1 = cc in absurd (omega arith)
 
 module _ (s : List ℕ) (p : ℕ) where
-  -- the byte at offset i is no text
-  abbrev isEnd : ℕ → Bool
-  isEnd i = not (isLabelText (byte s (p + i)))
+  -- the sixteen bytes at p
+  abbrev pub label : List ℕ
+  label = run s p 16
+
+  pub label-byte : (i : ℕ) → i < 16 → byte label i ≡ byte s (p + i)
+  label-byte i h = byte-run s p 16 i h
 
   -- the text does not end exactly where all sixteen bytes are characters
   pub text-full : textEnd s p ≡ Nothing → (i : ℕ) → i < 16 → isLabelText (byte s (p + i)) ≡ true
   unfolding textEnd
-  text-full e i h = not-false _ (range-none isEnd (λ j. j) 16 0 e i (omega arith) h)
+  text-full e i h = not-false _ (range-none (noText s p) (λ j. j) 16 0 e i (omega arith) h)
 
   pub full-text : ((i : ℕ) → i < 16 → isLabelText (byte s (p + i)) ≡ true) → textEnd s p ≡ Nothing
   unfolding textEnd
-  full-text f = none-range isEnd (λ j. j) 16 0 (λ i h k. ap not (f i k))
+  full-text f = none-range (noText s p) (λ j. j) 16 0 (λ i h k. ap not (f i k))
 
   -- it ends at i exactly where the bytes before i are characters, and the one at i is none
-  ends : (i : ℕ) → textEnd s p ≡ At i → Least isEnd (λ j. j) 0 16 i
+  ends : (i : ℕ) → textEnd s p ≡ At i → Least (noText s p) (λ j. j) 0 16 i
   unfolding textEnd
-  ends i e = range-least isEnd (λ j. j) 16 0 i e
+  ends i e = range-least (noText s p) (λ j. j) 16 0 i e
 
   pub text-fits : (i : ℕ) → textEnd s p ≡ At i → i < 16
-  text-fits i e = let l : Least isEnd (λ j. j) 0 16 i = ends i e in omega (arith, l .to, l .stands)
+  text-fits i e = let l : Least (noText s p) (λ j. j) 0 16 i = ends i e in omega (arith, l .to, l .stands)
 
   pub text-before : (i : ℕ) → textEnd s p ≡ At i → (j : ℕ) → j < i → isLabelText (byte s (p + j)) ≡ true
   text-before i e j h =
-      let l : Least isEnd (λ j. j) 0 16 i = ends i e in
+      let l : Least (noText s p) (λ j. j) 0 16 i = ends i e in
       not-false _ (l .before j (omega arith) (omega (arith, l .stands)))
 
   pub text-stops : (i : ℕ) → textEnd s p ≡ At i → isLabelText (byte s (p + i)) ≡ false
   text-stops i e =
-      let l : Least isEnd (λ j. j) 0 16 i = ends i e in
-      not-true _ (subst (λ (j : ℕ). isEnd j ≡ true) (l .stands) (l .passes))
+      let l : Least (noText s p) (λ j. j) 0 16 i = ends i e in
+      not-true _ (subst (λ (j : ℕ). noText s p j ≡ true) (l .stands) (l .passes))
 
   pub stops-text : (i : ℕ) → i < 16 → ((j : ℕ) → j < i → isLabelText (byte s (p + j)) ≡ true) → isLabelText (byte s (p + i)) ≡ false → textEnd s p ≡ At i
   unfolding textEnd
   stops-text i h f e =
-      least-range isEnd (λ j. j) 16 0 i
+      least-range (noText s p) (λ j. j) 16 0 i
       (record { number = i; from = omega arith; to = h; passes = ap not e; stands = refl; before = λ j _ k. ap not (f j k) })
 
   -- it ends no further than the label's start and the end of the image

@@ -1,34 +1,29 @@
 -- What a comparison of two runs tells, and a search for a byte that is not zero. Assumes nothing.
 use Prim.Native.Nat.{ℕ, _+_, _≤_, _<_}
-use mathlib.Core.Bool.{Bool, true, not}
+use mathlib.Core.Bool.{true, not}
 use mathlib.Core.List.{List}
 use mathlib.Core.Path.{_≡_, refl, sym, ap, _∙_}
 use native.Mathlib.Omega.{arith}
-use lib.Dec.{eqb}
 use borrow.Author.Tests.{eq-eqb, eqb-true, not-false}
 use Rattle.chain.specs.declared.Found.{Found}
 use Rattle.chain.specs.declared.Found.the-variants.{At, Nothing}
 use Rattle.chain.specs.laws.Fill.{tab-agree}
 use Rattle.chain.specs.laws.Ranges.{Least, range-least, range-none, none-range}
 use Rattle.octets.specs.Bytes.{byte, run}
-use Rattle.octets.specs.Runs.{difference, isNothing, sameRun, nonzero}
+use Rattle.octets.specs.Runs.{apart, difference, isNothing, sameRun, isSet, nonzero}
 use Rattle.octets.specs.laws.Bytes.{byte-run}
 
 module _ (a : List ℕ) (p : ℕ) (b : List ℕ) (q n : ℕ) where
-  -- offset i has two bytes that differ
-  abbrev pub apart : ℕ → Bool
-  apart i = not (eqb (byte a (p + i)) (byte b (q + i)))
-
-  pub difference-least : (i : ℕ) → difference a p b q n ≡ At i → Least apart (λ j. j) 0 n i
+  pub difference-least : (i : ℕ) → difference a p b q n ≡ At i → Least (apart a p b q) (λ j. j) 0 n i
   unfolding difference
-  difference-least i e = range-least apart (λ j. j) n 0 i e
+  difference-least i e = range-least (apart a p b q) (λ j. j) n 0 i e
 
   -- two runs are the same exactly where no offset differs
   pub same-is-equal : sameRun a p b q n ≡ true → run a p n ≡ run b q n
   unfolding sameRun difference
   same-is-equal e =
       tab-agree (λ i. byte a (p + i)) (λ i. byte b (q + i)) n
-      (λ i h. eqb-true _ _ (not-false _ (range-none apart (λ j. j) n 0 (nothing (difference a p b q n) e) i (omega arith) h)))
+      (λ i h. eqb-true _ _ (not-false _ (range-none (apart a p b q) (λ j. j) n 0 (nothing (difference a p b q n) e) i (omega arith) h)))
     where
       nothing : (f : Found) → isNothing f ≡ true → f ≡ Nothing
       nothing (At i) e = cc
@@ -38,21 +33,18 @@ module _ (a : List ℕ) (p : ℕ) (b : List ℕ) (q n : ℕ) where
   unfolding sameRun difference
   equal-is-same e =
       ap isNothing
-      (none-range apart (λ j. j) n 0
+      (none-range (apart a p b q) (λ j. j) n 0
       (λ i k h. ap not (eq-eqb _ _ (sym (byte-run a p n i h) ∙ ap (λ (l : List ℕ). byte l i) e ∙ byte-run b q n i h))))
 
 module _ (s : List ℕ) (p from to : ℕ) where
-  abbrev pub isSet : ℕ → Bool
-  isSet i = not (eqb (byte s (p + i)) 0)
-
-  pub nonzero-least : (q : ℕ) → nonzero s p from to ≡ At q → Least isSet (λ i. p + i) from to q
+  pub nonzero-least : (q : ℕ) → nonzero s p from to ≡ At q → Least (isSet s p) (λ i. p + i) from to q
   unfolding nonzero
-  nonzero-least q e = range-least isSet (λ i. p + i) to from q e
+  nonzero-least q e = range-least (isSet s p) (λ i. p + i) to from q e
 
   pub nonzero-none : nonzero s p from to ≡ Nothing → (i : ℕ) → from ≤ i → i < to → byte s (p + i) ≡ 0
   unfolding nonzero
-  nonzero-none e i h k = eqb-true _ _ (not-false _ (range-none isSet (λ j. p + j) to from e i h k))
+  nonzero-none e i h k = eqb-true _ _ (not-false _ (range-none (isSet s p) (λ j. p + j) to from e i h k))
 
   pub none-nonzero : ((i : ℕ) → from ≤ i → i < to → byte s (p + i) ≡ 0) → nonzero s p from to ≡ Nothing
   unfolding nonzero
-  none-nonzero f = none-range isSet (λ j. p + j) to from (λ i h k. ap not (eq-eqb _ _ (f i h k)))
+  none-nonzero f = none-range (isSet s p) (λ j. p + j) to from (λ i h k. ap not (eq-eqb _ _ (f i h k)))

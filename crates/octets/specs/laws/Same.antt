@@ -15,7 +15,7 @@ use Rattle.chain.specs.laws.Loops.{one-grows}
 use Rattle.chain.specs.laws.Places.{chain-all}
 use Rattle.octets.specs.Bytes.{byte, run, little, le16, le32, le64}
 use Rattle.octets.specs.Label.{isLabelText, dollar, noText, textEnd, afterText, badLabel}
-use Rattle.octets.specs.Runs.{six, eight, sixteen, sixAt, eightAt, sixteenAt, isNonzero, nonzero}
+use Rattle.octets.specs.Runs.{six, eight, sixteen, sixAt, eightAt, sixteenAt, isSet, nonzero}
 use Rattle.octets.specs.laws.Label.{text-fits}
 
 abbrev pub Same : List ℕ → List ℕ → ℕ → ℕ → Type 0
@@ -59,15 +59,15 @@ module _ (s t : List ℕ) (a b : ℕ) (same : Same s t a b) (p : ℕ) (start : a
   pub nonzero-same : (from to : ℕ) → p + to ≤ b → nonzero s p from to ≡ nonzero t p from to
   unfolding nonzero
   nonzero-same from to h =
-      first-agree (isNonzero s p) (isNonzero t p) (range from to)
-      (chain-all (ahead 1) to one-grows (λ i. isNonzero s p i ≡ isNonzero t p i) from
+      first-agree (λ i. when (isSet s p i) (p + i)) (λ i. when (isSet t p i) (p + i)) (range from to)
+      (chain-all (ahead 1) to one-grows (λ i. when (isSet s p i) (p + i) ≡ when (isSet t p i) (p + i)) from
       (λ i _ k. ap (λ (x : ℕ). when (not (eqb x 0)) (p + i)) (same (p + i) (omega arith) (omega arith))))
 
   text-same : p + 16 ≤ b → textEnd s p ≡ textEnd t p
   unfolding textEnd
   text-same h =
-      first-agree (noText s p) (noText t p) (range 0 16)
-      (chain-all (ahead 1) 16 one-grows (λ i. noText s p i ≡ noText t p i) 0
+      first-agree (λ i. when (noText s p i) i) (λ i. when (noText t p i) i) (range 0 16)
+      (chain-all (ahead 1) 16 one-grows (λ i. when (noText s p i) i ≡ when (noText t p i) i) 0
       (λ i _ k. ap (λ (x : ℕ). when (not (isLabelText x)) i) (same (p + i) (omega arith) (omega arith))))
 
   pub label-same : p + 16 ≤ b → badLabel s p ≡ badLabel t p

@@ -3,14 +3,14 @@ use Prim.Native.Nat.{_-_}
 use mathlib.Core.Path.{_≡_, refl, sym, ap, _∙_}
 use native.Mathlib.Omega.{arith}
 use Rattle.chain.specs.Chain.{ahead}
-use Rattle.chain.specs.First.{search}
+use Rattle.chain.specs.First.{when, search}
 use Rattle.chain.specs.laws.Loops.{one-grows, turn, hit, done}
 use Rattle.octets.specs.Label.{isLabelText, noText, textEnd}
 use Rattle.octets.proofs.label.text_end.Statement.{statement}
 use Rattle.octets.proofs.label.text_end.Tie as tie
 
 abbrev Inv-loop : tie.InvT-loop
-Inv-loop s at i₀ i = search (noText s at) (ahead 1) 16 i ≡ textEnd s at
+Inv-loop s at i₀ i = search (λ j. when (noText s at j) j) (ahead 1) 16 i ≡ textEnd s at
 
 abbrev μ-loop : tie.MeasureT-loop
 μ-loop s at i₀ i = 16 - i

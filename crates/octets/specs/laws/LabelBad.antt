@@ -1,11 +1,10 @@
--- The label rule is the paper's: nothing is bad exactly in good labels, and the bad byte is the first that no good label with the same beginning has.
--- The idea: text, '$' and zero are told apart by one byte, so the bytes before the bad one fix how many characters a label with that beginning has.
--- Assumes nothing.
+-- The bad byte is the first that no good label with the same beginning has. The idea: text, '$' and zero are told apart by one byte, so the bytes
+-- before the bad one fix how many characters a label with that beginning has. Assumes nothing.
 use Prim.Native.Nat.{ℕ, _+_, _≤_, _<_}
 use mathlib.Core.Bool.{Bool, true, false, not, cond}
 use mathlib.Core.List.{List}
 use mathlib.Core.Logic.{_⊎_, inl, inr}
-use mathlib.Core.Path.{_≡_, refl, sym, ap, ap₂, subst, _∙_}
+use mathlib.Core.Path.{_≡_, refl, sym, ap, subst, _∙_}
 use native.Mathlib.Omega.{arith}
 use lib.Dec.{T, eqb, ltb}
 use borrow.Author.Tests.{eq-eqb, ne-eqb, eqb-true, eqb-false, not-false, not-true, lt-ltb, le-ltb}
@@ -15,80 +14,20 @@ use Rattle.chain.specs.declared.Found.{Found}
 use Rattle.chain.specs.declared.Found.the-variants.{At, Nothing}
 use Rattle.chain.specs.laws.Below.{below}
 use Rattle.chain.specs.laws.Fill.{length-tab, getD-tab}
-use Rattle.chain.specs.laws.First.{at-nothing, orElse-left, orElse-right, when-nothing}
+use Rattle.chain.specs.laws.First.{at-nothing}
 use Rattle.chain.specs.laws.Ranges.{Least}
-use Rattle.octets.specs.Bytes.{byte, run}
+use Rattle.octets.specs.Bytes.{byte}
 use Rattle.octets.specs.Label.{isLabelText, dollar, textEnd, afterText, badLabel, Ended, GoodLabel, BadByte}
-use Rattle.octets.specs.Runs.{nonzero}
-use Rattle.octets.specs.laws.Bytes.{length-run, byte-run}
-use Rattle.octets.specs.laws.Label.{dollar-text, text-full, full-text, text-fits, text-before, text-stops, stops-text}
-use Rattle.octets.specs.laws.Runs.{isSet, nonzero-least, nonzero-none, none-nonzero}
+use Rattle.octets.specs.Runs.{isSet, nonzero}
+use Rattle.octets.specs.laws.Label.{label, label-byte, dollar-text, text-fits, text-before, text-stops}
+use Rattle.octets.specs.laws.Runs.{nonzero-least}
 
 -- a byte is not both text and no text
 clash : (b : ℕ) → isLabelText b ≡ true → isLabelText b ≡ false → ⊥
 clash b t f = subst T (sym t ∙ f) tt
 
 module _ (s : List ℕ) (p : ℕ) where
-  abbrev label : List ℕ
-  label = run s p 16
-
-  here : (i : ℕ) → i < 16 → byte label i ≡ byte s (p + i)
-  here i h = byte-run s p 16 i h
-
-  -- the two clauses of the rule where the text ends at i: '$' there, and zeros after it
-  abbrev mark : ℕ → Found
-  mark i = when (not (eqb (byte s (p + i)) dollar)) (p + i)
-
-  abbrev rest : ℕ → Found
-  rest i = nonzero s p (i + 1) 16
-
-  -- ---- nothing is bad exactly in good labels
-  ended : (i : ℕ) → textEnd s p ≡ At i → orElse (mark i) (rest i) ≡ Nothing → Ended label i
-  ended i d e =
-      let w : i < 16 = text-fits s p i d in
-      record {
-        room = w;
-        mark = here i w ∙ eqb-true _ _ (not-false _ (when-nothing _ (p + i) (orElse-left (mark i) (rest i) e)));
-        zeros = λ j h k. here j k ∙ nonzero-none s p (i + 1) 16 (orElse-right (mark i) (rest i) e) j (omega arith) k;
-      }
-
-  pub good-label : badLabel s p ≡ Nothing → GoodLabel label
-  unfolding badLabel
-  good-label = go (textEnd s p) refl
-    where
-      go : (f : Found) → textEnd s p ≡ f → afterText s p f ≡ Nothing → GoodLabel label
-      go (At i) d e =
-          record {
-            sixteen = length-run s p 16;
-            text = i;
-            characters = λ j h. ap isLabelText (here j (omega (arith, text-fits s p i d))) ∙ text-before s p i d j h;
-            ends = inr (ended i d e);
-          }
-      go Nothing d e =
-          record {
-            sixteen = length-run s p 16;
-            text = 16;
-            characters = λ j h. ap isLabelText (here j h) ∙ text-full s p d j h;
-            ends = inl refl;
-          }
-
-  pub label-good : GoodLabel label → badLabel s p ≡ Nothing
-  unfolding badLabel
-  label-good g = go (g .ends)
-    where
-      characters : (j : ℕ) → j < 16 → j < g .text → isLabelText (byte s (p + j)) ≡ true
-      characters j h k = ap isLabelText (sym (here j h)) ∙ g .characters j k
-
-      go : (g .text ≡ 16) ⊎ Ended label (g .text) → afterText s p (textEnd s p) ≡ Nothing
-      go (inl e) = ap (afterText s p) (full-text s p (λ j h. characters j h (omega (arith, e))))
-      go (inr e) =
-          let i = g .text in
-          let m : byte s (p + i) ≡ dollar = sym (here i (e .room)) ∙ e .mark in
-          ap (afterText s p) (stops-text s p i (e .room) (λ j h. characters j (omega (arith, e .room)) h) (dollar-text _ m))
-          ∙ ap₂ (λ (b : Bool) (f : Found). orElse (when (not b) (p + i)) f) (eq-eqb _ _ m)
-          (none-nonzero s p (i + 1) 16 (λ j h k. sym (here j k) ∙ e .zeros j (omega arith) k))
-
-  -- ---- the bad byte, at offset m: the text ends at i, not after m
+  -- the bad byte is at offset m: the text ends at i, not after m
   module _ (i m : ℕ) (end : textEnd s p ≡ At i) (order : i ≤ m) (within : m < 16) where
     -- a good label with the bytes before m
     completed : ℕ → ℕ
@@ -125,11 +64,11 @@ module _ (s : List ℕ) (p : ℕ) where
         }
 
     -- with the byte at m too there is none, unless it ends after i characters
-    no-label : ((l : List ℕ) → Ended l i → ((j : ℕ) → j ≤ m → byte l j ≡ byte label j) → ⊥) → (l : List ℕ) → GoodLabel l → ((j : ℕ) → j ≤ m → byte l j ≡ byte label j) → ⊥
+    no-label : ((l : List ℕ) → Ended l i → ((j : ℕ) → j ≤ m → byte l j ≡ byte (label s p) j) → ⊥) → (l : List ℕ) → GoodLabel l → ((j : ℕ) → j ≤ m → byte l j ≡ byte (label s p) j) → ⊥
     no-label refute l g same = go (below (g .text) i) (below i (g .text)) (g .ends)
       where
         as-label : (j : ℕ) → j ≤ m → byte l j ≡ byte s (p + j)
-        as-label j h = same j h ∙ here j (omega arith)
+        as-label j h = same j h ∙ label-byte s p j (omega arith)
 
         go : (g .text < i) ⊎ (i ≤ g .text) → (i < g .text) ⊎ (g .text ≤ i) → (g .text ≡ 16) ⊎ Ended l (g .text) → ⊥
         go (inl h) w (inl e) = omega arith
@@ -141,13 +80,13 @@ module _ (s : List ℕ) (p : ℕ) where
         go (inr h) (inr k) (inr e) = refute l (subst (Ended l) (omega arith) e) same
 
     bad : (i < m → byte s (p + i) ≡ dollar) → ((j : ℕ) → i < j → j < m → byte s (p + j) ≡ 0)
-        → ((l : List ℕ) → Ended l i → ((j : ℕ) → j ≤ m → byte l j ≡ byte label j) → ⊥) → BadByte label m
+        → ((l : List ℕ) → Ended l i → ((j : ℕ) → j ≤ m → byte l j ≡ byte (label s p) j) → ⊥) → BadByte (label s p) m
     bad marked zeroed refute =
         record {
           within = within;
           other = tab completed 16;
           good = completed-good marked zeroed;
-          beginning = λ j h. other-byte j (omega arith) ∙ as-given j h ∙ sym (here j (omega arith));
+          beginning = λ j h. other-byte j (omega arith) ∙ as-given j h ∙ sym (label-byte s p j (omega arith));
           none = no-label refute;
         }
 
@@ -155,7 +94,7 @@ module _ (s : List ℕ) (p : ℕ) where
   pub record BadAt (q : ℕ) : Type 0 where
     pub offset : ℕ
     pub stands : p + offset ≡ q
-    pub bad : BadByte label offset
+    pub bad : BadByte (label s p) offset
 
   pub bad-byte : (q : ℕ) → badLabel s p ≡ At q → BadAt q
   unfolding badLabel
@@ -169,10 +108,10 @@ module _ (s : List ℕ) (p : ℕ) where
             stands = refl;
             bad =
                 bad i i d (omega arith) w (λ h. absurd (omega arith)) (λ j h k. absurd (omega arith))
-                (λ l e same. n (sym (same i (omega arith) ∙ here i w) ∙ e .mark));
+                (λ l e same. n (sym (same i (omega arith) ∙ label-byte s p i w) ∙ e .mark));
           }
 
-      not-zero : (i : ℕ) → textEnd s p ≡ At i → byte s (p + i) ≡ dollar → Least (isSet s p (i + 1) 16) (λ j. p + j) (i + 1) 16 q → BadAt q
+      not-zero : (i : ℕ) → textEnd s p ≡ At i → byte s (p + i) ≡ dollar → Least (isSet s p) (λ j. p + j) (i + 1) 16 q → BadAt q
       not-zero i d k l =
           record {
             offset = l .number;
@@ -182,10 +121,10 @@ module _ (s : List ℕ) (p : ℕ) where
                 (λ j h g. eqb-true _ _ (not-false _ (l .before j (omega arith) g)))
                 (λ m e same.
                 eqb-false _ _ (not-true _ (l .passes))
-                (sym (same (l .number) (omega arith) ∙ here (l .number) (l .to)) ∙ e .zeros (l .number) (omega (arith, l .from)) (l .to)));
+                (sym (same (l .number) (omega arith) ∙ label-byte s p (l .number) (l .to)) ∙ e .zeros (l .number) (omega (arith, l .from)) (l .to)));
           }
 
-      at-end : (i : ℕ) → textEnd s p ≡ At i → (b : Bool) → eqb (byte s (p + i)) dollar ≡ b → orElse (when (not b) (p + i)) (rest i) ≡ At q → BadAt q
+      at-end : (i : ℕ) → textEnd s p ≡ At i → (b : Bool) → eqb (byte s (p + i)) dollar ≡ b → orElse (when (not b) (p + i)) (nonzero s p (i + 1) 16) ≡ At q → BadAt q
       at-end i d true t e = not-zero i d (eqb-true _ _ t) (nonzero-least s p (i + 1) 16 q e)
       at-end i d false t e = let z : p + i ≡ q = cc in subst BadAt z (no-mark i d (eqb-false _ _ t))
 
