@@ -20,13 +20,13 @@ const BYTE_BASIS: [u32; 8] = [
     0xEDB88320,
 ];
 
-// The register after the bytes of s, from c: for a message that comes in parts. The tables of the lanes are worth their filling from some 192 bytes on.
+// The register after the bytes of s, from c: for a message that comes in parts. The tables of the lanes are worth their filling from some 256 bytes on.
 pub fn crc32_run(c: u32, s: &[u8]) -> u32
     ensures { λ r. ⌜ r ≡ run32 c (now (s .entry)) ⌝ }
 {
     let mut t = [0u32; 256];
     spread(&mut t, &BYTE_BASIS);
-    if s.len() < 192 {
+    if s.len() < 256 {
         run_bytes(&t, c, s)
     } else {
         run_lanes(&t, c, s)

@@ -21,9 +21,9 @@ number-past : le32 (0x00 ∷ 0x34 ∷ 0x12 ∷ []) 1 ≡ 0x1234
 unfolding le32 tab
 number-past = refl
 
-apart : difference (1 ∷ 2 ∷ 3 ∷ 4 ∷ []) 0 (0 ∷ 1 ∷ 2 ∷ 9 ∷ []) 1 4 ≡ At 2
+differing : difference (1 ∷ 2 ∷ 3 ∷ 4 ∷ []) 0 (0 ∷ 1 ∷ 2 ∷ 9 ∷ []) 1 4 ≡ At 2
 unfolding difference first chain visit
-apart = refl
+differing = refl
 
 alike : sameRun (1 ∷ 2 ∷ 3 ∷ 4 ∷ []) 0 (0 ∷ 1 ∷ 2 ∷ 9 ∷ []) 1 2 ≡ true
 unfolding sameRun difference first chain visit

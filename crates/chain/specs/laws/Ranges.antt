@@ -62,16 +62,13 @@ module _ (test : ℕ → Bool) (place : ℕ → ℕ) (b : ℕ) where
       (λ a h ih z l.
       search-more rule (ahead 1) b one-grows a h
       ∙ elim (below a (l .number)) [
-        | inl k ↦ from-false a (l .before a (omega arith) k) ∙ ih z (least-after a z l k)
-        | inr k ↦ from-true a (subst (λ (x : ℕ). test x ≡ true) (omega (arith, l .from)) (l .passes))
+        | inl k ↦ told a false (l .before a (omega arith) k) ∙ ih z (least-after a z l k)
+        | inr k ↦ told a true (subst (λ (x : ℕ). test x ≡ true) (omega (arith, l .from)) (l .passes))
             ∙ ap At (subst (λ (x : ℕ). place x ≡ z) (omega (arith, l .from)) (l .stands))
       ])
     where
-      from-false : (a : ℕ) → test a ≡ false → orElse (rule a) (first rule (range (ahead 1 a) b)) ≡ first rule (range (ahead 1 a) b)
-      from-false a t = ap (λ (u : Bool). orElse (when u (place a)) (first rule (range (ahead 1 a) b))) t
-
-      from-true : (a : ℕ) → test a ≡ true → orElse (rule a) (first rule (range (ahead 1 a) b)) ≡ At (place a)
-      from-true a t = ap (λ (u : Bool). orElse (when u (place a)) (first rule (range (ahead 1 a) b))) t
+      told : (a : ℕ) (t : Bool) → test a ≡ t → orElse (rule a) (first rule (range (ahead 1 a) b)) ≡ orElse (when t (place a)) (first rule (range (ahead 1 a) b))
+      told a t e = ap (λ (u : Bool). orElse (when u (place a)) (first rule (range (ahead 1 a) b))) e
 
       least-after : (a z : ℕ) (l : Least test place a b z) → a < l .number → Least test place (ahead 1 a) b z
       least-after a z l k =

@@ -1,12 +1,12 @@
 -- Two images that agree on the places from a up to b: what is read there is the same. Assumes nothing.
 use Prim.Native.Nat.{ℕ, _+_, _≤_, _<_}
-use mathlib.Core.Bool.{not}
+use mathlib.Core.Bool.{Bool, not}
 use mathlib.Core.List.{List}
 use mathlib.Core.Path.{_≡_, refl, ap, ap₂, _∙_}
 use native.Mathlib.Omega.{arith}
 use lib.Dec.{eqb}
 use Rattle.chain.specs.Chain.{range, ahead}
-use Rattle.chain.specs.First.{when, orElse}
+use Rattle.chain.specs.First.{first, when, orElse}
 use Rattle.chain.specs.declared.Found.{Found}
 use Rattle.chain.specs.declared.Found.the-variants.{At, Nothing}
 use Rattle.chain.specs.laws.Fill.{tab-agree}
@@ -55,20 +55,20 @@ module _ (s t : List ℕ) (a b : ℕ) (same : Same s t a b) (p : ℕ) (start : a
   unfolding sixteenAt
   sixteen-same h = ap sixteen (run-same 16 h)
 
-  -- ---- what is searched for there is found at the same place
+  -- ---- a search by a test of each byte finds the same: the first of the offsets from `from` up to `to`, each with its place
+  pub search-same : (test : ℕ → Bool) (place : ℕ → ℕ) (from to : ℕ) → p + to ≤ b → first (λ i. when (test (byte s (p + i))) (place i)) (range from to) ≡ first (λ i. when (test (byte t (p + i))) (place i)) (range from to)
+  search-same test place from to h =
+      first-agree (λ i. when (test (byte s (p + i))) (place i)) (λ i. when (test (byte t (p + i))) (place i)) (range from to)
+      (chain-all (ahead 1) to one-grows (λ i. when (test (byte s (p + i))) (place i) ≡ when (test (byte t (p + i))) (place i)) from
+      (λ i _ k. ap (λ (x : ℕ). when (test x) (place i)) (same (p + i) (omega arith) (omega arith))))
+
   pub nonzero-same : (from to : ℕ) → p + to ≤ b → nonzero s p from to ≡ nonzero t p from to
   unfolding nonzero
-  nonzero-same from to h =
-      first-agree (λ i. when (isSet s p i) (p + i)) (λ i. when (isSet t p i) (p + i)) (range from to)
-      (chain-all (ahead 1) to one-grows (λ i. when (isSet s p i) (p + i) ≡ when (isSet t p i) (p + i)) from
-      (λ i _ k. ap (λ (x : ℕ). when (not (eqb x 0)) (p + i)) (same (p + i) (omega arith) (omega arith))))
+  nonzero-same from to h = search-same (λ x. not (eqb x 0)) (λ i. p + i) from to h
 
   text-same : p + 16 ≤ b → textEnd s p ≡ textEnd t p
   unfolding textEnd
-  text-same h =
-      first-agree (λ i. when (noText s p i) i) (λ i. when (noText t p i) i) (range 0 16)
-      (chain-all (ahead 1) 16 one-grows (λ i. when (noText s p i) i ≡ when (noText t p i) i) 0
-      (λ i _ k. ap (λ (x : ℕ). when (not (isLabelText x)) i) (same (p + i) (omega arith) (omega arith))))
+  text-same h = search-same (λ x. not (isLabelText x)) (λ i. i) 0 16 h
 
   pub label-same : p + 16 ≤ b → badLabel s p ≡ badLabel t p
   unfolding badLabel
