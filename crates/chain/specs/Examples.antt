@@ -6,6 +6,7 @@ use lib.Dec.{leb}
 use Rattle.chain.specs.Chain.{visit, chain, ahead, range}
 use Rattle.chain.specs.Fill.{tab, filled}
 use Rattle.chain.specs.First.{when, first}
+use Rattle.chain.specs.Keep.{keep, only}
 use Rattle.chain.specs.Nth.{nth}
 use Rattle.chain.specs.declared.Found.the-variants.{At, Nothing}
 
@@ -37,6 +38,23 @@ third = refl
 past-the-last : nth (range 2 5) 3 ≡ Nothing
 unfolding visit chain nth
 past-the-last = refl
+
+kept : keep (leb 4) (range 2 7) ≡ 4 ∷ 5 ∷ 6 ∷ []
+unfolding visit chain keep
+kept = refl
+
+-- one place passes, two do, none does
+only-place : only (keep (leb 6) (range 2 7)) ≡ At 6
+unfolding visit chain keep only
+only-place = refl
+
+two-places : only (keep (leb 5) (range 2 7)) ≡ Nothing
+unfolding visit chain keep only
+two-places = refl
+
+no-place : only (keep (leb 9) (range 2 7)) ≡ Nothing
+unfolding visit chain keep only
+no-place = refl
 
 front : filled (λ i. i + 7) 2 (1 ∷ 2 ∷ 3 ∷ 4 ∷ []) ≡ 7 ∷ 8 ∷ 3 ∷ 4 ∷ []
 unfolding tab filled

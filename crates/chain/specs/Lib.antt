@@ -2,6 +2,7 @@
 pub mod Chain
 pub mod First
 pub mod Nth
+pub mod Keep
 pub mod All
 pub mod Fill
 pub mod Examples

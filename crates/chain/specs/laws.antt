@@ -8,6 +8,7 @@ pub mod Agree
 pub mod First
 pub mod Loops
 pub mod Nth
+pub mod Keep
 pub mod Ranges
 pub mod Smallest
 pub mod Steps

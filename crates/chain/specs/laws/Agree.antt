@@ -1,11 +1,16 @@
--- Two chains beside each other: two `next` that agree on the places visited, and one chain up to an earlier end. Assumes nothing.
+-- Two chains beside each other: two `next` that agree on the places visited, two rules that agree there, and one chain up to an earlier end.
+-- Assumes nothing.
 use Prim.Native.Nat.{ℕ, _≤_, _<_}
 use mathlib.Core.List.{List, _∷_, _++_}
 use mathlib.Core.Path.{_≡_, sym, ap, _∙_}
 use native.Mathlib.Omega.{arith}
 use Rattle.chain.specs.All.{All}
 use Rattle.chain.specs.Chain.{chain}
+use Rattle.chain.specs.First.{search}
+use Rattle.chain.specs.declared.Found.{Found}
 use Rattle.chain.specs.laws.Chain.{chain-end, chain-more, chain-ind}
+use Rattle.chain.specs.laws.First.{first-agree}
+use Rattle.chain.specs.laws.Places.{chain-all}
 
 -- two functions that agree on the places visited have one chain
 pub chain-agree : (next other : ℕ → ℕ) (end : ℕ) → ((p : ℕ) → p < next p) → ((p : ℕ) → p < other p) → (p : ℕ) → All (λ q. next q ≡ other q) (chain next end p) → chain next end p ≡ chain other end p
@@ -15,6 +20,11 @@ chain-agree next other end grows rises =
     (λ p h ih a.
     let b : All (λ q. next q ≡ other q) (p ∷ chain next end (next p)) = rw (chain-more next end grows p h) at a in
     chain-more next end grows p h ∙ ap (λ (l : List ℕ). p ∷ l) (ih (b .1) ∙ ap (chain other end) (b .0)) ∙ sym (chain-more other end rises p h))
+
+-- two rules that agree at each place from the start up to the end find the same
+pub search-agree : (f g : ℕ → Found) (next : ℕ → ℕ) (end : ℕ) → ((p : ℕ) → p < next p) → (p : ℕ) → ((q : ℕ) → p ≤ q → q < end → f q ≡ g q) → search f next end p ≡ search g next end p
+search-agree f g next end grows p agree =
+    first-agree f g (chain next end p) (chain-all next end grows (λ q. f q ≡ g q) p agree)
 
 -- the chain up to an earlier end, and what follows: a chain again, from a place at or past the start and the earlier end
 pub record Prefix (next : ℕ → ℕ) (early end p : ℕ) : Type 0 where

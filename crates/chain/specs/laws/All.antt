@@ -15,6 +15,11 @@ module _ {A : Type 0} where
   all-map P Q f [] a = tt
   all-map P Q f (x ∷ xs) a = (f x (a .0), all-map P Q f xs (a .1))
 
+  -- two things that hold of each element, and what follows from both
+  pub all-both : (P Q R : A → Type 0) → ((x : A) → P x → Q x → R x) → (l : List A) → All P l → All Q l → All R l
+  all-both P Q R f [] a b = tt
+  all-both P Q R f (x ∷ xs) a b = (f x (a .0) (b .0), all-both P Q R f xs (a .1) (b .1))
+
   pub all-split : (P : A → Type 0) (xs : List A) (y : A) (ys : List A) → All P (xs ++ (y ∷ ys)) → P y
   all-split P [] y ys a = a .0
   all-split P (x ∷ xs) y ys a = all-split P xs y ys (a .1)

@@ -32,6 +32,17 @@ module _ {A : Type 0} where
   tab-agree f g (suc n) h =
       ap₂ (λ (l : List A) (x : A). l ++ (x ∷ [])) (tab-agree f g n (λ i k. h i (omega arith))) (h n (omega arith))
 
+  -- n + 1 values from place p on: the one at p, and n from the next place on
+  tab-front : (f : ℕ → A) (n : ℕ) → tab f (suc n) ≡ f 0 ∷ tab (λ i. f (suc i)) n
+  unfolding tab
+  tab-front f zero = refl
+  tab-front f (suc n) = ap (λ (l : List A). l ++ (f (suc n) ∷ [])) (tab-front f n)
+
+  pub tab-from : (f : ℕ → A) (p n : ℕ) → tab (λ i. f (p + i)) (suc n) ≡ f p ∷ tab (λ i. f (p + 1 + i)) n
+  tab-from f p n =
+      tab-front (λ i. f (p + i)) n
+      ∙ ap₂ (λ (x : A) (l : List A). x ∷ l) (ap f (omega arith)) (tab-agree (λ i. f (p + suc i)) (λ i. f (p + 1 + i)) n (λ i h. ap f (omega arith)))
+
   pub filled-agree : (f g : ℕ → A) (n : ℕ) (b : List A) → ((i : ℕ) → i < n → f i ≡ g i) → filled f n b ≡ filled g n b
   unfolding filled
   filled-agree f g n b h = ap (λ (l : List A). l ++ drop n b) (tab-agree f g n h)

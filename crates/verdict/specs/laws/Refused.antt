@@ -6,8 +6,8 @@ use mathlib.Core.Path.{_≡_, refl, ap, ap₂, _∙_}
 use Rattle.chain.specs.declared.Found.{Found}
 use Rattle.chain.specs.declared.Found.the-variants.{At, Nothing}
 use Rattle.verdict.specs.Verdict.{values, refusal, refuse, answer}
-use Rattle.verdict.specs.laws.Accepted.{Clear}
 use Rattle.verdict.specs.declared.Judged.{Judged}
+use Rattle.verdict.specs.laws.Accepted.{Clear}
 
 -- rule n of the table is broken at p, and each rule before it is clear
 pub record Broken (l : List (ℕ × Found)) (n p : ℕ) : Type 0 where

@@ -1,0 +1,9 @@
+-- What is proved of the definitions. Assumes nothing.
+
+pub mod Layout
+pub mod Strings
+pub mod Texts
+pub mod Along
+pub mod Tags
+pub mod Pool
+pub mod Same

@@ -1,0 +1,44 @@
+-- The layout's laws: an item has at least one byte and at most 257, and its data lie inside it. Assumes nothing.
+use Prim.Native.Nat.{ℕ, _+_, _/_, _≤_, _<_}
+use mathlib.Core.Bool.{Bool, true, false, cond}
+use mathlib.Core.List.{List}
+use native.Mathlib.Omega.{arith}
+use Rattle.chain.specs.All.{All}
+use Rattle.chain.specs.laws.Places.{chain-within}
+use Rattle.octets.specs.Bytes.{byte, Octets}
+use Rattle.tiny_layout.specs.Layout.{isLong, headSize, dataLength, dataAt, last, next, items}
+
+head-within : (b : Bool) → (1 ≤ cond b 2 1) × (cond b 2 1 ≤ 2)
+head-within true = (omega arith, omega arith)
+head-within false = (omega arith, omega arith)
+
+-- one byte of head, or two
+pub head-bounds : (tag : ℕ) → (1 ≤ headSize tag) × (headSize tag ≤ 2)
+unfolding headSize
+head-bounds tag = head-within (isLong tag)
+
+-- an item's data begin past its tag, and end with it
+pub data-after : (s : List ℕ) (p : ℕ) → p < dataAt s p
+data-after s p = omega (arith, head-bounds (byte s p) .0)
+
+pub data-within : (s : List ℕ) (p : ℕ) → dataAt s p ≤ next s p
+unfolding next
+data-within s p = omega arith
+
+-- so the next item starts further on
+pub next-grows : (s : List ℕ) (p : ℕ) → p < next s p
+unfolding next
+next-grows s p = omega (arith, head-bounds (byte s p) .0)
+
+-- a length byte, or four bits
+pub length-bound : (s : List ℕ) (p : ℕ) → Octets s → dataLength s p < 256
+unfolding dataLength
+length-bound s p octets = go (isLong (byte s p))
+  where
+    go : (b : Bool) → cond b (byte s (p + 1)) (byte s p / 16) < 256
+    go true = octets (p + 1)
+    go false = omega (arith, octets p)
+
+-- each item starts past the header and before the check byte
+pub items-within : (s : List ℕ) → All (λ p. (3 ≤ p) × (p < last s)) (items s)
+items-within s = chain-within (next s) (last s) (next-grows s) 3

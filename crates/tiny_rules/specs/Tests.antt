@@ -1,0 +1,24 @@
+-- What the search along the items asks of each: a rule on items by its name, or whether the item is of a tag on the list. Assumes nothing.
+use Prim.Native.Nat.{ℕ}
+use mathlib.Core.List.{List}
+use Rattle.chain.specs.declared.Found.{Found}
+use Rattle.kinds.specs.declared.Kinds.{Kinds}
+use Rattle.tiny_layout.specs.Pool.{isKnown}
+use Rattle.tiny_layout.specs.declared.Shape.{Shape}
+use Rattle.tiny_rules.specs.Rules.{passes, reserved, early, onKnown, badIndex, badField}
+use Rattle.tiny_rules.specs.declared.fields.DataRule.{DataRule}
+use Rattle.tiny_rules.specs.declared.fields.DataRule.the-variants.{Index, Field}
+use Rattle.tiny_rules.specs.declared.items.Test.{Test}
+use Rattle.tiny_rules.specs.declared.items.Test.the-variants.{Passes, Reserved, Early, Data, Known}
+
+-- rules 10 and 11 on the data of an item
+abbrev pub dataRule : DataRule → List ℕ → Shape → ℕ → Found
+dataRule (Index count) s = badIndex s count
+dataRule Field s = badField s
+
+abbrev pub asked : Test → Kinds → List ℕ → ℕ → Found
+asked Passes k s = passes s
+asked Reserved k s = reserved s
+asked Early k s = early k s
+asked (Data rule) k s = onKnown k s (dataRule rule s)
+asked (Known tag) k s = isKnown k s tag
