@@ -10,6 +10,8 @@ ghost use lib.ListN.{length};
 ghost use Rattle.chain.specs.Chain.{chain};
 ghost use Rattle.chain.specs.Nth.{nth};
 ghost use Rattle.tiny_layout.specs.Layout.{headSize, dataLength, size, last, items};
+ghost use Rattle.chain.specs.declared.Found.{Found};
+ghost use Rattle.tiny_layout.specs.Pool.{poolAt};
 ghost use Rattle.tiny_layout.specs.Strings.{stringEnd, strings, texts, reference};
 ghost use Rattle.tiny_layout.specs.Tags.{shapeOf, references};
 ghost use Rattle.tiny_layout.specs.Along.{following};
@@ -109,6 +111,16 @@ pub fn check_place(image: &[u8]) -> u8
         return 0;
     }
     length - 1
+}
+
+// The data of the item at a place, as a pool.
+pub fn pool_at(image: &[u8], at: u8) -> Pool
+    ensures { λ r. ⌜ r ≡ poolAt (now (image .entry)) (Found.At at) ⌝ }
+{
+    Pool {
+        from: at as u16 + head_size(byte_at(image, at as usize)) as u16,
+        to: at as u16 + item_size(image, at as usize),
+    }
 }
 
 // Where the string at a place ends, in a pool that ends at `to`.

@@ -4,8 +4,6 @@ use kinds::Kinds;
 use octets::byte_at;
 use tiny_layout::Pool;
 use tiny_layout::check_place;
-use tiny_layout::head_size;
-use tiny_layout::item_size;
 use verdict::Judged;
 use verdict::refused;
 ghost use mathlib.Core.Path.{_≡_};
@@ -49,10 +47,7 @@ pub fn pool_of(image: &[u8], kinds: Kinds) -> Pool
     let Found::At(at) = first_from(Test::Known(0x01), image, kinds, 3) else {
         return Pool { from: 0, to: 0 };
     };
-    Pool {
-        from: at as u16 + head_size(byte_at(image, at)) as u16,
-        to: at as u16 + item_size(image, at),
-    }
+    tiny_layout::pool_at(image, at as u8)
 }
 
 // Rule 10: the place of the first index that is not below the string count.

@@ -2,8 +2,12 @@
 use Prim.Native.Nat.{ℕ, _+_, _/_, _≤_, _<_}
 use mathlib.Core.Bool.{Bool, true, false, cond}
 use mathlib.Core.List.{List}
+use mathlib.Core.Path.{_≡_}
 use native.Mathlib.Omega.{arith}
 use Rattle.chain.specs.All.{All}
+use Rattle.chain.specs.Nth.{nth}
+use Rattle.chain.specs.declared.Found.the-variants.{At}
+use Rattle.chain.specs.laws.Nth.{nth-all}
 use Rattle.chain.specs.laws.Places.{chain-within}
 use Rattle.octets.specs.Bytes.{byte, Octets}
 use Rattle.tiny_layout.specs.Layout.{isLong, headSize, dataLength, dataAt, last, next, items}
@@ -42,3 +46,6 @@ length-bound s p octets = go (isLong (byte s p))
 -- each item starts past the header and before the check byte
 pub items-within : (s : List ℕ) → All (λ p. (3 ≤ p) × (p < last s)) (items s)
 items-within s = chain-within (next s) (last s) (next-grows s) 3
+
+pub item-within : (s : List ℕ) (n p : ℕ) → nth (items s) n ≡ At p → (3 ≤ p) × (p < last s)
+item-within s n p e = nth-all (λ q. (3 ≤ q) × (q < last s)) (items s) n p (items-within s) e

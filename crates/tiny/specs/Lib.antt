@@ -1,0 +1,6 @@
+-- The definitions that the contracts cite, the paper's cases, and laws that other crates may cite. Assumes nothing.
+pub mod Major
+pub mod Items
+pub mod Answers
+pub mod Values
+pub mod laws
