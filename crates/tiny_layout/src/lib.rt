@@ -12,7 +12,7 @@ ghost use Rattle.chain.specs.Nth.{nth};
 ghost use Rattle.tiny_layout.specs.Layout.{headSize, dataLength, size, last, items};
 ghost use Rattle.chain.specs.declared.Found.{Found};
 ghost use Rattle.tiny_layout.specs.Pool.{poolAt};
-ghost use Rattle.tiny_layout.specs.Strings.{stringEnd, strings, texts, reference};
+ghost use Rattle.tiny_layout.specs.Strings.{stringEnd, strings, texts, spanAt, reference};
 ghost use Rattle.tiny_layout.specs.Tags.{shapeOf, references};
 ghost use Rattle.tiny_layout.specs.Along.{following};
 
@@ -206,6 +206,22 @@ pub fn string_place(image: &[u8], pool: Pool, number: usize) -> Found
     place_of(Along::Strings, image, pool.from as usize, pool.to, number)
 }
 
+// Where the string at a place lies, in a pool that ends at `to`.
+pub fn string_at(image: &[u8], to: u16, at: usize) -> Span
+    ensures { λ r. ⌜ r ≡ spanAt (now (image .entry)) to at ⌝ }
+{
+    if at < to as usize {
+        return Span {
+            place: at,
+            length: string_end(image, to, at) - at,
+        };
+    }
+    Span {
+        place: at,
+        length: 1,
+    }
+}
+
 // The string of a number: where it lies, or undecodable where the pool has none of that number.
 pub fn find_string(image: &[u8], pool: Pool, number: usize) -> Reference
     ensures { λ r. ⌜ r ≡ reference (now (image .entry)) pool number ⌝ }
@@ -213,8 +229,5 @@ pub fn find_string(image: &[u8], pool: Pool, number: usize) -> Reference
     let Found::At(at) = string_place(image, pool, number) else {
         return Reference::Undecodable;
     };
-    Reference::Text(Span {
-        place: at,
-        length: string_end(image, pool.to, at) - at,
-    })
+    Reference::Text(string_at(image, pool.to, at))
 }

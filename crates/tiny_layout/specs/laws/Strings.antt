@@ -10,7 +10,7 @@ use Rattle.chain.specs.First.{first, when, orElse}
 use Rattle.chain.specs.Nth.{nth}
 use Rattle.chain.specs.declared.Found.{Found}
 use Rattle.chain.specs.declared.Found.the-variants.{At, Nothing}
-use Rattle.chain.specs.laws.Loops.{one-grows, search-more}
+use Rattle.chain.specs.laws.Loops.{one-grows, search-end, search-more}
 use Rattle.chain.specs.laws.Nth.{nth-all}
 use Rattle.chain.specs.laws.Places.{chain-within}
 use Rattle.chain.specs.laws.Ranges.{Least, range-least}
@@ -62,6 +62,11 @@ module _ (s : List ℕ) (to : ℕ) where
   -- and ends it where none is
   pub string-cut : (p : ℕ) → p + 1 ≡ to → stringEnd s to p ≡ p + 1
   string-cut p h = omega (arith, string-grows p, string-fits p (omega arith))
+
+  -- past the pool each byte counts as a string of its own
+  pub string-past : (p : ℕ) → to ≤ p → stringEnd s to p ≡ p + 1
+  unfolding stringEnd
+  string-past p h = ap (pastMark to p) (search-end (mark s) (ahead 1) to one-grows p h) ∙ omega arith
 
 -- each string starts within its pool
 pub strings-within : (s : List ℕ) (pool : Pool) → All (λ p. (pool .from ≤ p) × (p < pool .to)) (strings s pool)

@@ -1,0 +1,175 @@
+// The lines of a listing.
+use super::text::put;
+use super::text::put_character;
+use super::text::put_decimal;
+use super::text::put_hex;
+use super::text::put_quoted;
+use super::text::put_text;
+use super::text::put_two;
+use super::words::put_rule;
+use kinds::Kinds;
+use octets::Six;
+use tiny::Batched;
+use tiny::Identity;
+use tiny::Item;
+use tiny::PoolShown;
+use tiny::ShownItem;
+use tiny::item_at;
+use tiny::major_text;
+use tiny_layout::Pool;
+use tiny_layout::Reference;
+use tiny_layout::check_place;
+use tiny_layout::item_size;
+use tiny_layout::string_at;
+use tiny_rules::judge;
+use tiny_rules::pool_of;
+use verdict::Judged;
+use verdict::Refusal;
+
+// A reference: its text, or that it is undecodable.
+fn put_reference(image: &[u8], reference: Reference) {
+    match reference {
+        Reference::Text(span) => put_text(image, span),
+        Reference::Undecodable => put(b"undecodable"),
+    }
+}
+
+// Six bytes with colons between them.
+fn put_address(six: Six) {
+    put_hex(six.b0);
+    put(b":");
+    put_hex(six.b1);
+    put(b":");
+    put_hex(six.b2);
+    put(b":");
+    put_hex(six.b3);
+    put(b":");
+    put_hex(six.b4);
+    put(b":");
+    put_hex(six.b5);
+}
+
+// Serial, part, major, minor and the two characters.
+fn put_identity(image: &[u8], identity: Identity) {
+    let serial = identity.serial;
+    let part = identity.part;
+    put(b"identity serial ");
+    put_reference(image, serial);
+    put(b" part ");
+    put_reference(image, part);
+    put(b" major ");
+    let major = major_text(identity.major);
+    put_character(major.first);
+    put_character(major.second);
+    put(b" minor ");
+    put_two(identity.minor as u16);
+    put(b" characters \"");
+    put_quoted(identity.characters.first);
+    put_quoted(identity.characters.second);
+    put(b"\"");
+}
+
+// These and the batch.
+fn put_batched(image: &[u8], batched: Batched) {
+    put_identity(image, batched.identity);
+    put(b" batch ");
+    put_two(batched.batch / 100);
+    put_two(batched.batch % 100);
+}
+
+// The strings of a pool, a line for each.
+fn put_strings(image: &[u8], pool: Pool) {
+    let mut at = pool.from as usize;
+    let mut number = 0;
+    while at < pool.to as usize {
+        let span = string_at(image, pool.to, at);
+        put(b"\n  ");
+        put_decimal(number);
+        put(b" ");
+        put_text(image, span);
+        at += span.length;
+        number += 1;
+    }
+}
+
+// A pool: how many strings, and then these.
+fn put_pool(image: &[u8], pool: Pool, shown: PoolShown) {
+    put(b"pool strings ");
+    put_decimal(shown.strings);
+    put_strings(image, pool);
+}
+
+// What an item says.
+fn put_fields(image: &[u8], pool: Pool, length: usize, item: Item) {
+    match item {
+        Item::Pool(shown) => put_pool(image, pool, shown),
+        Item::Serial(reference) => {
+            put(b"serial ");
+            put_reference(image, reference);
+        }
+        Item::Flags(flags) => {
+            put(b"flags ");
+            put_hex(flags);
+        }
+        Item::Address(six) => {
+            put(b"address ");
+            put_address(six);
+        }
+        Item::Identity(identity) => put_identity(image, identity),
+        Item::Batched(batched) => put_batched(image, batched),
+        Item::NotKnown => {
+            put(b"unknown length ");
+            put_decimal(length);
+        }
+    }
+}
+
+// The line of an item.
+fn put_item(image: &[u8], pool: Pool, shown: ShownItem) {
+    put_decimal(shown.place);
+    put(b" ");
+    put_hex(shown.tag);
+    put(b" ");
+    let item = shown.item;
+    put_fields(image, pool, shown.length, item);
+    put(b"\n");
+}
+
+// The lines of all items.
+fn put_items(image: &[u8], kinds: Kinds) {
+    let pool = pool_of(image, kinds);
+    let end = check_place(image) as usize;
+    let mut at = 3;
+    while at < end {
+        put_item(image, pool, item_at(image, kinds, pool, at as u8));
+        at += item_size(image, at) as usize;
+    }
+}
+
+// The line of a refusal.
+fn put_refusal(refusal: Refusal) {
+    put(b"refused ");
+    put_decimal(refusal.number as usize);
+    put(b" at ");
+    put_decimal(refusal.place);
+    put(b": ");
+    put_rule(refusal.number);
+    put(b"\n");
+}
+
+// The listing of an image.
+pub fn list(image: &[u8]) {
+    let kinds = Kinds::full_list();
+    let judgement = judge(image, kinds);
+    match judgement {
+        Judged::Accepted(count) => {
+            put(b"tiny 2 items ");
+            put_decimal(count);
+            put(b" length ");
+            put_decimal(check_place(image) as usize + 1);
+            put(b"\n");
+            put_items(image, kinds);
+        }
+        Judged::Refused(refusal) => put_refusal(refusal),
+    }
+}
