@@ -1,6 +1,8 @@
--- The definitions that the contracts cite, the paper's cases, and laws that other crates may cite. Assumes nothing.
+-- The definitions that the contracts cite, the paper's cases, examples, and laws that other crates may cite. Assumes nothing.
 pub mod Major
 pub mod Items
 pub mod Answers
 pub mod Values
+pub mod Cases
+pub mod Examples
 pub mod laws

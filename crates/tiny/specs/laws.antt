@@ -1,3 +1,5 @@
 -- What is proved of the definitions. Assumes nothing.
-
-pub mod Serial
+pub mod Major
+pub mod Serials
+pub mod Same
+pub mod Resolved

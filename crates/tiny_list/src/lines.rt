@@ -1,80 +1,35 @@
 // The lines of a listing.
-use super::text::put;
-use super::text::put_character;
-use super::text::put_decimal;
-use super::text::put_hex;
-use super::text::put_quoted;
-use super::text::put_text;
-use super::text::put_two;
 use super::words::put_rule;
 use kinds::Kinds;
-use octets::Six;
-use tiny::Batched;
 use tiny::Identity;
 use tiny::Item;
 use tiny::PoolShown;
 use tiny::ShownItem;
 use tiny::item_at;
-use tiny::major_text;
 use tiny_layout::Pool;
-use tiny_layout::Reference;
 use tiny_layout::check_place;
 use tiny_layout::item_size;
 use tiny_layout::string_at;
+use tiny_print::put_address;
+use tiny_print::put_batch;
+use tiny_print::put_product;
+use tiny_print::put_reference;
+use tiny_print::put_revision;
+use tiny_print::text::put;
+use tiny_print::text::put_decimal;
+use tiny_print::text::put_hex;
+use tiny_print::text::put_text;
 use tiny_rules::judge;
 use tiny_rules::pool_of;
 use verdict::Judged;
 use verdict::Refusal;
 
-// A reference: its text, or that it is undecodable.
-fn put_reference(image: &[u8], reference: Reference) {
-    match reference {
-        Reference::Text(span) => put_text(image, span),
-        Reference::Undecodable => put(b"undecodable"),
-    }
-}
-
-// Six bytes with colons between them.
-fn put_address(six: Six) {
-    put_hex(six.b0);
-    put(b":");
-    put_hex(six.b1);
-    put(b":");
-    put_hex(six.b2);
-    put(b":");
-    put_hex(six.b3);
-    put(b":");
-    put_hex(six.b4);
-    put(b":");
-    put_hex(six.b5);
-}
-
-// Serial, part, major, minor and the two characters.
+// An identity.
 fn put_identity(image: &[u8], identity: Identity) {
-    let serial = identity.serial;
-    let part = identity.part;
-    put(b"identity serial ");
-    put_reference(image, serial);
-    put(b" part ");
-    put_reference(image, part);
+    put(b"identity ");
+    put_product(image, identity);
     put(b" major ");
-    let major = major_text(identity.major);
-    put_character(major.first);
-    put_character(major.second);
-    put(b" minor ");
-    put_two(identity.minor as u16);
-    put(b" characters \"");
-    put_quoted(identity.characters.first);
-    put_quoted(identity.characters.second);
-    put(b"\"");
-}
-
-// These and the batch.
-fn put_batched(image: &[u8], batched: Batched) {
-    put_identity(image, batched.identity);
-    put(b" batch ");
-    put_two(batched.batch / 100);
-    put_two(batched.batch % 100);
+    put_revision(identity);
 }
 
 // The strings of a pool, a line for each.
@@ -116,7 +71,10 @@ fn put_fields(image: &[u8], pool: Pool, length: usize, item: Item) {
             put_address(six);
         }
         Item::Identity(identity) => put_identity(image, identity),
-        Item::Batched(batched) => put_batched(image, batched),
+        Item::Batched(batched) => {
+            put_identity(image, batched.identity);
+            put_batch(batched.batch);
+        }
         Item::NotKnown => {
             put(b"unknown length ");
             put_decimal(length);

@@ -1,5 +1,5 @@
 // The rules in words.
-use super::text::put;
+use tiny_print::text::put;
 
 // The rule of a refusal number.
 pub fn put_rule(number: u8) {
@@ -9,7 +9,7 @@ pub fn put_rule(number: u8) {
         3 => put(b"the version is not 2"),
         4 => put(b"the length byte is below 4 or above the number of bytes"),
         5 => put(b"the check byte is not the CRC-8 of the bytes before it"),
-        6 => put(b"an item or its length byte passes the check byte's place"),
+        6 => put(b"an item, or its length byte, does not end before the check byte"),
         7 => put(b"the long tag 00"),
         8 => put(b"the pool is not the last item"),
         9 => put(b"a pool byte is no character, or the last one has no end mark"),

@@ -4,3 +4,4 @@ pub mod Tests
 pub mod Accepted
 pub mod Shorter
 pub mod Range
+pub mod Same

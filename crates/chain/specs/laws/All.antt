@@ -33,3 +33,9 @@ module _ {A : Type 0} where
   pub map-agree : {B : Type 0} (f g : A → B) (l : List A) → All (λ x. f x ≡ g x) l → map f l ≡ map g l
   map-agree f g [] a = refl
   map-agree {B} f g (x ∷ xs) a = ap₂ (λ (y : B) (ys : List B). y ∷ ys) (a .0) (map-agree f g xs (a .1))
+
+  -- the element at a number that the list has
+  pub map-getD : {B : Type 0} (f : A → B) (l : List A) (n : ℕ) (a : A) (b : B) → n < length l → getD (map f l) n b ≡ f (getD l n a)
+  map-getD f [] n a b h = absurd (omega arith)
+  map-getD f (x ∷ xs) zero a b h = refl
+  map-getD f (x ∷ xs) (suc n) a b h = map-getD f xs n a b (omega arith)

@@ -2,9 +2,10 @@
 use Prim.Native.Nat.{ℕ, _+_, _≤_, _<_}
 use mathlib.Core.Bool.{Bool, not}
 use mathlib.Core.List.{List}
-use mathlib.Core.Path.{_≡_, refl, ap, ap₂, _∙_}
+use mathlib.Core.Path.{_≡_, refl, sym, ap, ap₂, _∙_}
 use native.Mathlib.Omega.{arith}
 use lib.Dec.{eqb}
+use lib.ListN.{length, take}
 use Rattle.chain.specs.Chain.{range, ahead}
 use Rattle.chain.specs.First.{first, when, orElse}
 use Rattle.chain.specs.declared.Found.{Found}
@@ -14,8 +15,9 @@ use Rattle.chain.specs.laws.First.{first-agree}
 use Rattle.chain.specs.laws.Loops.{one-grows}
 use Rattle.chain.specs.laws.Places.{chain-all}
 use Rattle.octets.specs.Bytes.{byte, run, little, le16, le32, le64}
-use Rattle.octets.specs.Label.{isLabelText, dollar, noText, textEnd, afterText, badLabel}
-use Rattle.octets.specs.Runs.{six, eight, sixteen, sixAt, eightAt, sixteenAt, isSet, nonzero}
+use Rattle.octets.specs.Label.{isLabelText, dollar, textEnd, afterText, badLabel}
+use Rattle.octets.specs.Runs.{six, eight, sixteen, sixAt, eightAt, sixteenAt, nonzero}
+use Rattle.octets.specs.laws.Bytes.{run-part}
 use Rattle.octets.specs.laws.Label.{text-fits}
 
 abbrev pub Same : List ℕ → List ℕ → ℕ → ℕ → Type 0
@@ -79,3 +81,8 @@ module _ (s t : List ℕ) (a b : ℕ) (same : Same s t a b) (p : ℕ) (start : a
           ap₂ (λ (x : ℕ) (f : Found). orElse (when (not (eqb x dollar)) (p + i)) f)
           (same (p + i) (omega arith) (omega (arith, text-fits s p i e))) (nonzero-same (i + 1) 16 h)
       go Nothing e = refl
+
+-- the first n bytes of both, where both have as many
+pub take-same : (s t : List ℕ) (n : ℕ) → Same s t 0 n → n ≤ length s → n ≤ length t → take n s ≡ take n t
+take-same s t n same h k =
+    sym (run-part s 0 n (omega arith)) ∙ run-same s t 0 n same 0 (omega arith) n (omega arith) ∙ run-part t 0 n (omega arith)

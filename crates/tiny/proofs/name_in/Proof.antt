@@ -14,7 +14,7 @@ use Rattle.tiny.specs.Answers.{serialOf}
 use Rattle.tiny.specs.Items.{itemAt}
 use Rattle.tiny.specs.declared.Item.{Item}
 use Rattle.tiny.specs.declared.ShownItem.{ShownItem}
-use Rattle.tiny.specs.laws.Serial.{serial-known}
+use Rattle.tiny.specs.laws.Serials.{serial-known}
 use Rattle.tiny.proofs.name_in.Tie as tie
 
 -- a serial is case 1

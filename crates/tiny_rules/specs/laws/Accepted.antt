@@ -44,6 +44,32 @@ known-clear k s rule e =
     (λ p c h. under-mark (listed k (Tag (byte s p))) (rule (shapeOf (byte s p)) (dataAt s p)) c h) (items s)
     (first-all (onKnown k s rule) (items s) e)
 
+-- rule 6 is not broken: each item ends at the check byte or before it
+pub unpassed-fit : (s : List ℕ) → rule6 s ≡ Nothing → All (λ p. (3 ≤ p) × (next s p ≤ last s)) (items s)
+unfolding rule6
+unpassed-fit s e =
+    all-both (λ p. (3 ≤ p) × (p < last s)) (λ p. passes s p ≡ Nothing) (λ p. (3 ≤ p) × (next s p ≤ last s))
+    (λ p w c. (
+      w .0,
+      ltb-false (last s) (next s p)
+          (neither (ltb (last s) (dataAt s p)) (ltb (last s) (next s p))
+          (when-nothing (ltb (last s) (dataAt s p) || ltb (last s) (next s p)) p c) .1),
+    ))
+    (items s) (items-within s) (first-all (passes s) (items s) e)
+
+-- and so does the pool that is used
+pub unpassed-pool : (k : Kinds) (s : List ℕ) → rule6 s ≡ Nothing → pool k s .to ≤ last s
+unfolding pool
+unpassed-pool k s e = go (first (isKnown k s 0x01) (items s)) refl
+  where
+    go : (f : Found) → first (isKnown k s 0x01) (items s) ≡ f → poolAt s f .to ≤ last s
+    go (At p) d =
+        let h : Hit (isKnown k s 0x01) (items s) p = first-hit (isKnown k s 0x01) (items s) p d in
+        subst (λ (q : ℕ). next s q ≤ last s)
+        (when-place (listed k (Tag 0x01) && eqb (byte s (h .item)) 0x01) (h .item) p (h .breaks))
+        (hit-holds (isKnown k s 0x01) (λ q. (3 ≤ q) × (next s q ≤ last s)) (items s) p (unpassed-fit s e) h .1)
+    go Nothing d = omega arith
+
 -- an image that breaks no rule is accepted, with the count of its items
 pub clear-accepted : (k : Kinds) (s : List ℕ) → Clear (rules k s) → judged k s ≡ Accepted (length (items s))
 unfolding judged
@@ -81,16 +107,7 @@ module _ (k : Kinds) (s : List ℕ) (n : ℕ) (e : judged k s ≡ Accepted n) wh
 
   -- rule 6: each item ends at the check byte or before it
   pub items-fit : All (λ p. (3 ≤ p) × (next s p ≤ last s)) (items s)
-  unfolding rule6
-  items-fit =
-      all-both (λ p. (3 ≤ p) × (p < last s)) (λ p. passes s p ≡ Nothing) (λ p. (3 ≤ p) × (next s p ≤ last s))
-      (λ p w c. (
-        w .0,
-        ltb-false (last s) (next s p)
-            (neither (ltb (last s) (dataAt s p)) (ltb (last s) (next s p))
-            (when-nothing (ltb (last s) (dataAt s p) || ltb (last s) (next s p)) p c) .1),
-      ))
-      (items s) (items-within s) (first-all (passes s) (items s) (accepted-clear .1 .1 .1 .1 .1 .0))
+  items-fit = unpassed-fit s (accepted-clear .1 .1 .1 .1 .1 .0)
 
   -- rule 7: no item has the tag 00
   pub no-reserved : All (λ p. byte s p ≡ 0x00 → ⊥) (items s)
@@ -119,16 +136,7 @@ module _ (k : Kinds) (s : List ℕ) (n : ℕ) (e : judged k s ≡ Accepted n) wh
 
   -- the pool that is used lies before the check byte
   pub pool-fits : pool k s .to ≤ last s
-  unfolding pool
-  pool-fits = go (first (isKnown k s 0x01) (items s)) refl
-    where
-      go : (f : Found) → first (isKnown k s 0x01) (items s) ≡ f → poolAt s f .to ≤ last s
-      go (At p) d =
-          let h : Hit (isKnown k s 0x01) (items s) p = first-hit (isKnown k s 0x01) (items s) p d in
-          subst (λ (q : ℕ). next s q ≤ last s)
-          (when-place (listed k (Tag 0x01) && eqb (byte s (h .item)) 0x01) (h .item) p (h .breaks))
-          (hit-holds (isKnown k s 0x01) (λ q. (3 ≤ q) × (next s q ≤ last s)) (items s) p items-fit h .1)
-      go Nothing d = omega arith
+  pool-fits = unpassed-pool k s (accepted-clear .1 .1 .1 .1 .1 .0)
 
   -- rule 9 at each byte of the pool
   pool-byte : (p : ℕ) → pool k s .from ≤ p → p < pool k s .to

@@ -15,6 +15,10 @@ Agree [] (y ∷ ys) = ⊥
 Agree (x ∷ xs) [] = ⊥
 Agree (x ∷ xs) (y ∷ ys) = (x .0 ≡ y .0) × (x .1 ≡ y .1) × (x .1 ≡ Nothing → Agree xs ys)
 
+-- what `Agree` asks of one rule of number n, where A is what it asks of the later ones
+pub agree-more : {n : ℕ} {f g : Found} {A : Type 0} → f ≡ g → (f ≡ Nothing → A) → (n ≡ n) × (f ≡ g) × (f ≡ Nothing → A)
+agree-more e more = (refl, e, more)
+
 -- what comes after the tables need agree only where the first is clear
 pub agree-answer : (l m : List (ℕ × Found)) (i j : Judged) → Agree l m → (Clear l → i ≡ j) → answer l i ≡ answer m j
 agree-answer [] [] i j a h = h tt

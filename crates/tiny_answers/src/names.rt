@@ -1,0 +1,64 @@
+// The name, into buffers of several sizes.
+use kinds::Kinds;
+use tiny::NameAnswer;
+use tiny::name;
+use tiny_print::text::put;
+use tiny_print::text::put_decimal;
+use tiny_print::text::put_hex;
+use verdict::Refusal;
+ghost use Prim.Native.Nat.{_≤_};
+ghost use lib.ListN.{length};
+
+// The first eight bytes of the block.
+fn put_bytes(block: &[u8]) {
+    let mut i = 0;
+    while i < 8 {
+        if i < block.len() {
+            put_hex(block[i]);
+        }
+        i += 1;
+    }
+    put(b"\n");
+}
+
+fn put_refusal(refusal: Refusal) {
+    put(b"refused ");
+    put_decimal(refusal.number as usize);
+    put(b" ");
+    put_decimal(refusal.place);
+    put(b" ");
+}
+
+fn put_answer(answer: NameAnswer) {
+    match answer {
+        NameAnswer::Length(n) => {
+            put(b"length ");
+            put_decimal(n);
+            put(b" ");
+        }
+        NameAnswer::Refused(refusal) => put_refusal(refusal),
+    }
+}
+
+// The name with the first `size` bytes of a block lent, and what the block then holds.
+fn put_name(image: &[u8], kinds: Kinds, size: usize, block: &mut [u8])
+    requires { ⌜ size ≤ length (now block) ⌝ }
+{
+    put(b"name ");
+    put_decimal(size);
+    put(b" ");
+    put_answer(name(image, kinds, &mut block[..size]));
+    put_bytes(block);
+}
+
+// Each time with a block of AAh.
+pub fn put_names(image: &[u8], kinds: Kinds) {
+    let mut none = [0xAAu8; 255];
+    put_name(image, kinds, 0, &mut none);
+    let mut three = [0xAAu8; 255];
+    put_name(image, kinds, 3, &mut three);
+    let mut four = [0xAAu8; 255];
+    put_name(image, kinds, 4, &mut four);
+    let mut all = [0xAAu8; 255];
+    put_name(image, kinds, 255, &mut all);
+}

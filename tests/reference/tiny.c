@@ -1,0 +1,447 @@
+/*
+ * A reader and lister of tiny images in C, written from the papers alone and from no line of the Rattle code, to
+ * hold that code against: the build paper, the layout paper, the readings in docs/DECISIONS.md, docs/LISTING.md.
+ *
+ *     tiny list < image         the listing of docs/LISTING.md, full list
+ *     tiny answers < records    every answer, for a run of images with their lists; tests/README.md has the form
+ *
+ * Exit: 0 whenever it answered, 2 on a wrong command line, 3 if standard input or output failed.
+ */
+#include <stdbool.h>
+#include <stdint.h>
+#include <stdio.h>
+#include <stdlib.h>
+#include <string.h>
+
+enum { MAGIC = 0x56, VERSION = 2, HEADER = 3, FULL_LIST = 255 };
+
+/* refusal 0 is "not refused"; a refused answer has a value of 0 */
+struct answer {
+    unsigned refusal, place;
+    unsigned value; /* judge: count of items; name: length; else 0 */
+};
+
+struct text {
+    bool decodable;
+    unsigned length;
+    char bytes[255]; /* end mark cleared */
+};
+
+struct item {
+    unsigned tag, place, length; /* length: of the data */
+    bool known;
+    /* what follows is set only in a known item, by its tag */
+    unsigned data, strings;    /* 01: place of the first data byte; string count */
+    unsigned flags;            /* 11 */
+    uint8_t address[6];        /* 60 */
+    struct text serial, part;  /* 10 (serial only), 61, 62, 80, 81 */
+    unsigned major, minor;     /* 61, 62, 80, 81 */
+    char major_text[2], characters[2];
+    unsigned batch;            /* 80, 81 */
+};
+
+static struct answer refuse(unsigned number, unsigned place) {
+    return (struct answer){number, place, 0};
+}
+
+static struct answer accept(unsigned value) {
+    return (struct answer){0, 0, value};
+}
+
+/* ---- the parts of an image ---- */
+
+/* x^8 + x^2 + x + 1, highest bit first, start 0, nothing inverted */
+static uint8_t crc8(const uint8_t *bytes, unsigned count) {
+    uint8_t crc = 0;
+    for (unsigned i = 0; i < count; i++) {
+        for (int bit = 7; bit >= 0; bit--) {
+            bool out = (crc >> 7) & 1, in = (bytes[i] >> bit) & 1;
+            crc = (uint8_t)(crc << 1);
+            if (out != in)
+                crc ^= 0x07;
+        }
+    }
+    return crc;
+}
+
+static bool is_known(unsigned list, unsigned tag) {
+    static const uint8_t kinds[8] = {0x01, 0x10, 0x11, 0x60, 0x61, 0x62, 0x80, 0x81};
+    for (int i = 0; i < 8; i++)
+        if (kinds[i] == tag)
+            return (list >> i) & 1;
+    return false;
+}
+
+/* how many of the data bytes, from the front, are string indexes; 2 is an identity */
+static unsigned index_count(unsigned tag) {
+    switch (tag) {
+    case 0x10: return 1;
+    case 0x61: case 0x62: case 0x80: case 0x81: return 2;
+    default: return 0;
+    }
+}
+
+static bool is_character(unsigned byte) {
+    return byte >= 0x20 && byte <= 0x7E;
+}
+
+/* where an item lies: its tag at place, data bytes from data up to end */
+struct span {
+    unsigned tag, place, data, end;
+};
+
+/* The item at a place before L - 1. False if it, or its length byte, passes L - 1; the check byte is
+ * never taken for a length. */
+static bool span_at(const uint8_t *image, unsigned place, struct span *span) {
+    unsigned check = image[2] - 1u; /* the place L - 1 */
+    span->place = place;
+    span->tag = image[place];
+    if (span->tag >> 4) {
+        span->data = place + 1;
+        span->end = span->data + (span->tag >> 4);
+    } else {
+        if (place + 1 >= check)
+            return false;
+        span->data = place + 2;
+        span->end = span->data + image[place + 1];
+    }
+    return span->end <= check;
+}
+
+/* The pool of an image that rules 1 to 8 let pass: its last item, if that is a listed 01. */
+static bool find_pool(const uint8_t *image, unsigned list, struct span *pool) {
+    struct span last = {.end = HEADER};
+    while (last.end < image[2] - 1u)
+        if (!span_at(image, last.end, &last))
+            return false;
+    *pool = last;
+    return last.tag == 0x01 && is_known(list, 0x01);
+}
+
+/* strings in the listed pool, 0 without one: as many as there are end marks */
+static unsigned string_count(const uint8_t *image, unsigned list) {
+    unsigned count = 0;
+    struct span pool;
+    if (find_pool(image, list, &pool))
+        for (unsigned at = pool.data; at < pool.end; at++)
+            count += image[at] >> 7;
+    return count;
+}
+
+/* ---- the judge ---- */
+
+/* The first place where one of the rules 6 to 11 breaks, or 0 (no item starts at 0). Each rule is run over
+ * the whole image; rule 6 comes first, so that the walk of the others cannot fail. */
+static unsigned broken_at(const uint8_t *image, unsigned list, unsigned rule, unsigned strings) {
+    unsigned check = image[2] - 1u;
+    struct span s;
+    for (unsigned at = HEADER; at < check; at = s.end) {
+        if (!span_at(image, at, &s))
+            return at; /* rule 6 */
+        const uint8_t *d = image + s.data;
+        bool known = is_known(list, s.tag), pool = known && s.tag == 0x01;
+        if (rule == 7 && s.tag == 0x00)
+            return at;
+        if (rule == 8 && pool && s.end != check)
+            return at;
+        if (rule == 9 && pool)
+            for (unsigned i = s.data; i < s.end; i++)
+                if (!is_character(image[i] & 0x7F) || (i + 1 == s.end && image[i] < 0x80))
+                    return i;
+        if (rule == 10 && known && is_known(list, 0x01))
+            for (unsigned i = 0; i < index_count(s.tag); i++)
+                if (d[i] >= strings)
+                    return s.data + i;
+        if (rule == 11 && known && index_count(s.tag) == 2) {
+            if (!(d[2] <= 0x63 || (d[2] >= 0x80 && d[2] <= 0x99)))
+                return s.data + 2;
+            if (d[3] > 99)
+                return s.data + 3;
+            if (!is_character(d[4]) || !is_character(d[5]))
+                return s.data + 4; /* the field's first byte */
+            if (s.end - s.data == 8 && d[6] + 256u * d[7] > 9999)
+                return s.data + 6;
+        }
+    }
+    return 0;
+}
+
+static struct answer judge(const uint8_t *image, size_t lent, unsigned list) {
+    if (lent < 4)
+        return refuse(1, 0);
+    if (image[0] != MAGIC)
+        return refuse(2, 0);
+    if (image[1] != VERSION)
+        return refuse(3, 1);
+    unsigned length = image[2], count = 0, strings = 0;
+    if (length < 4 || length > lent)
+        return refuse(4, 2);
+    if (crc8(image, length - 1) != image[length - 1])
+        return refuse(5, length - 1);
+    for (unsigned rule = 6; rule <= 11; rule++) {
+        if (rule == 10) /* the pool is good by now */
+            strings = string_count(image, list);
+        unsigned place = broken_at(image, list, rule, strings);
+        if (place)
+            return refuse(rule, place);
+    }
+    for (struct span s = {.end = HEADER}; s.end < length - 1; count++)
+        span_at(image, s.end, &s);
+    return accept(count);
+}
+
+/* ---- strings, items, name: each judges the image first; a refused call leaves what it was lent alone ---- */
+
+static struct answer string_by_number(const uint8_t *image, size_t lent, unsigned list, unsigned number,
+                                      struct text *text) {
+    struct answer judged = judge(image, lent, list);
+    struct span pool;
+    if (judged.refusal)
+        return judged;
+    if (!is_known(list, 0x01)) { /* undecodable, whatever the number */
+        memset(text, 0, sizeof *text);
+        return accept(0);
+    }
+    if (number >= string_count(image, list) || !find_pool(image, list, &pool))
+        return refuse(42, 0);
+    memset(text, 0, sizeof *text);
+    text->decodable = true;
+    unsigned at = pool.data;
+    for (; number; at++) /* pass this many end marks */
+        number -= image[at] >> 7;
+    do
+        text->bytes[text->length++] = (char)(image[at] & 0x7F);
+    while (image[at++] < 0x80);
+    return accept(0);
+}
+
+static struct answer item_by_number(const uint8_t *image, size_t lent, unsigned list, unsigned number,
+                                    struct item *item) {
+    struct answer judged = judge(image, lent, list);
+    struct span s = {.end = HEADER};
+    if (judged.refusal)
+        return judged;
+    if (number >= judged.value)
+        return refuse(42, 0);
+    for (unsigned i = 0; i <= number; i++)
+        span_at(image, s.end, &s);
+    memset(item, 0, sizeof *item);
+    item->tag = s.tag;
+    item->place = s.place;
+    item->length = s.end - s.data;
+    item->known = is_known(list, s.tag);
+    if (!item->known)
+        return accept(0);
+    const uint8_t *d = image + s.data;
+    if (index_count(s.tag) >= 1)
+        string_by_number(image, lent, list, d[0], &item->serial);
+    if (s.tag == 0x01) {
+        item->data = s.data;
+        item->strings = string_count(image, list);
+    } else if (s.tag == 0x11) {
+        item->flags = d[0];
+    } else if (s.tag == 0x60) {
+        memcpy(item->address, d, 6);
+    } else if (index_count(s.tag) == 2) {
+        string_by_number(image, lent, list, d[1], &item->part);
+        item->major = d[2];
+        item->major_text[0] = (char)(d[2] < 0x80 ? '0' + d[2] / 10 : '0');
+        item->major_text[1] = (char)(d[2] < 0x80 ? '0' + d[2] % 10 : 'A' + (d[2] - 0x80));
+        item->minor = d[3];
+        memcpy(item->characters, d + 4, 2);
+        if (item->length == 8)
+            item->batch = d[6] + 256u * d[7];
+    }
+    return accept(0);
+}
+
+static struct answer name(const uint8_t *image, size_t lent, unsigned list, uint8_t *buffer, size_t size) {
+    struct answer judged = judge(image, lent, list);
+    struct item item, carrier = {0};
+    unsigned carriers = 0;
+    if (judged.refusal)
+        return judged;
+    for (unsigned i = 0; i < judged.value; i++) {
+        item_by_number(image, lent, list, i, &item);
+        if (item.known && item.tag == 0x10) {
+            carriers++;
+            carrier = item;
+        }
+    }
+    if (carriers != 1 || !carrier.serial.decodable)
+        return refuse(44, 0);
+    if (size < carrier.serial.length)
+        return refuse(43, 0);
+    memcpy(buffer, carrier.serial.bytes, carrier.serial.length);
+    return accept(carrier.serial.length);
+}
+
+/* ---- printing ---- */
+
+static void print_quoted(const char *bytes, unsigned length) {
+    putchar('"');
+    for (unsigned i = 0; i < length; i++) {
+        if (bytes[i] == '"' || bytes[i] == '\\')
+            putchar('\\');
+        putchar(bytes[i]);
+    }
+    putchar('"');
+}
+
+static void print_text(const char *before, const struct text *text) {
+    fputs(before, stdout);
+    if (text->decodable)
+        print_quoted(text->bytes, text->length);
+    else
+        fputs("undecodable", stdout);
+}
+
+/* the fields of a known item that is no pool; "all" also shows the major's byte */
+static void print_fields(const struct item *item, bool major_byte) {
+    const uint8_t *a = item->address;
+    if (item->tag == 0x11)
+        printf("flags %02X", item->flags);
+    if (item->tag == 0x60)
+        printf("address %02X:%02X:%02X:%02X:%02X:%02X", a[0], a[1], a[2], a[3], a[4], a[5]);
+    if (index_count(item->tag) >= 1)
+        print_text("serial ", &item->serial);
+    if (index_count(item->tag) == 2) {
+        print_text(" part ", &item->part);
+        fputs(" major ", stdout);
+        if (major_byte)
+            printf("%02X ", item->major);
+        printf("%.2s minor %02u characters ", item->major_text, item->minor);
+        print_quoted(item->characters, 2);
+        if (item->length == 8)
+            printf(" batch %04u", item->batch);
+    }
+}
+
+static void list_image(const uint8_t *image, size_t lent) {
+    static const char *const words[12] = {
+        "", "fewer than 4 bytes", "the first byte is not 56h", "the version is not 2",
+        "the length byte is below 4 or above the number of bytes",
+        "the check byte is not the CRC-8 of the bytes before it",
+        "an item, or its length byte, does not end before the check byte",
+        "the long tag 00", "the pool is not the last item",
+        "a pool byte is no character, or the last one has no end mark",
+        "an index is not below the string count",
+        "a major, minor, pair of characters or batch is out of range"};
+    struct answer judged = judge(image, lent, FULL_LIST);
+    struct item item;
+    struct text text;
+    if (judged.refusal) {
+        printf("refused %u at %u: %s\n", judged.refusal, judged.place, words[judged.refusal]);
+        return;
+    }
+    printf("tiny %d items %u length %u\n", VERSION, judged.value, image[2]);
+    for (unsigned i = 0; i < judged.value; i++) {
+        item_by_number(image, lent, FULL_LIST, i, &item);
+        printf("%u %02X ", item.place, item.tag);
+        if (!item.known) {
+            printf("unknown length %u\n", item.length);
+        } else if (item.tag == 0x01) {
+            printf("pool strings %u\n", item.strings);
+            for (unsigned n = 0; n < item.strings; n++) {
+                string_by_number(image, lent, FULL_LIST, n, &text);
+                printf("  %u", n);
+                print_text(" ", &text);
+                putchar('\n');
+            }
+        } else {
+            if (index_count(item.tag) == 2)
+                fputs("identity ", stdout);
+            print_fields(&item, false);
+            putchar('\n');
+        }
+    }
+}
+
+/* true, and printed, if the answer is a refusal */
+static bool print_refusal(struct answer answer) {
+    if (answer.refusal)
+        printf("refused %u %u", answer.refusal, answer.place);
+    return answer.refusal != 0;
+}
+
+static void all_answers(const uint8_t *image, size_t lent, unsigned list) {
+    static const unsigned sizes[4] = {0, 3, 4, 255};
+    struct answer judged = judge(image, lent, list);
+    unsigned strings = judged.refusal ? 0 : string_count(image, list);
+    struct item item;
+    struct text text;
+    if (!print_refusal(judged))
+        printf("accepted %u", judged.value);
+    for (unsigned i = 0; i <= judged.value; i++) {
+        printf("\nitem %u ", i);
+        if (print_refusal(item_by_number(image, lent, list, i, &item)))
+            continue;
+        printf("%02X place %u length %u ", item.tag, item.place, item.length);
+        fputs(item.known ? "known " : "unknown", stdout);
+        if (item.known && item.tag == 0x01)
+            printf("strings %u data %u %u", item.strings, item.data, item.length);
+        else if (item.known)
+            print_fields(&item, true);
+    }
+    for (unsigned i = 0; i <= strings + 1; i++) {
+        printf("\nstring %u ", i);
+        if (!print_refusal(string_by_number(image, lent, list, i, &text)))
+            print_text("", &text);
+    }
+    for (int i = 0; i < 4; i++) {
+        uint8_t buffer[255];
+        memset(buffer, 0xAA, sizeof buffer);
+        struct answer named = name(image, lent, list, buffer, sizes[i]);
+        printf("\nname %u ", sizes[i]);
+        if (!print_refusal(named))
+            printf("length %u", named.value);
+        putchar(' ');
+        for (int b = 0; b < 8; b++)
+            printf("%02X", buffer[b]);
+    }
+    putchar('\n');
+}
+
+/* Lends a copy that is exactly as large as what is lent, so that a build with the address sanitizer notices a read past it. */
+static bool lend(const uint8_t *bytes, size_t lent, bool list, unsigned mask) {
+    uint8_t *image = malloc(lent ? lent : 1);
+    if (!image)
+        return false;
+    memcpy(image, bytes, lent);
+    if (list)
+        list_image(image, lent);
+    else
+        all_answers(image, lent, mask);
+    free(image);
+    return true;
+}
+
+/* each record: the list, the image's length in two bytes, its bytes; a record cut short ends the run */
+static bool answer_records(const uint8_t *input, size_t length) {
+    size_t at = 0;
+    while (length - at >= 3) {
+        size_t lent = input[at + 1] + 256u * input[at + 2];
+        if (length - at - 3 < lent)
+            break;
+        printf("list %u\n", input[at]);
+        if (!lend(input + at + 3, lent, false, input[at]))
+            return false;
+        at += 3 + lent;
+    }
+    return true;
+}
+
+int main(int argc, char **argv) {
+    bool list = argc == 2 && strcmp(argv[1], "list") == 0;
+    if (!list && !(argc == 2 && strcmp(argv[1], "answers") == 0)) {
+        fputs("usage: tiny list | tiny answers, input on standard input\n", stderr);
+        return 2;
+    }
+    static uint8_t input[65536];
+    size_t length = fread(input, 1, sizeof input, stdin);
+    if (ferror(stdin))
+        return 3;
+    if (!(list ? lend(input, length, true, FULL_LIST) : answer_records(input, length)))
+        return 3;
+    return fflush(stdout) || ferror(stdout) ? 3 : 0;
+}
