@@ -1,5 +1,5 @@
 # Everything that can be typed here; `make help` lists it.
-.PHONY: help test check bench fmt
+.PHONY: help test check list compare bench fmt
 
 BENCH_DIR := target/bench
 
@@ -11,6 +11,18 @@ test: ## the gate: prove everything from nothing, try the must-fail edits, run t
 
 check: ## prove what has changed since it was last proved, and run the programs
 	@rt check
+
+list: ## list the tiny image in a file: make list IMAGE=samples/case4.bin
+	@test -n "$(IMAGE)" || { echo "list: which file? For example: make list IMAGE=samples/case4.bin"; exit 1; }
+	@test -f "$(IMAGE)" && test -r "$(IMAGE)" || { echo "list: $(IMAGE) is no file that can be read"; exit 1; }
+	@mkdir -p target
+	@rt check tiny_list >target/list.log 2>&1 || { cat target/list.log; exit 1; }
+	@target/bin/tiny_list <"$(IMAGE)"
+
+compare: ## compare with a reader in C on many images: make compare IMAGES=20000 SEED=1
+	@mkdir -p target
+	@rt check tiny_list tiny_answers >target/compare.log 2>&1 || { cat target/compare.log; exit 1; }
+	@python3 tests/run.py $(or $(IMAGES),20000) $(or $(SEED),1)
 
 bench: ## time the CRCs against zlib's and against a plain C loop (no test)
 	@command -v $(CC) >/dev/null || { echo "bench: no C compiler: $(CC) is not found"; exit 1; }
