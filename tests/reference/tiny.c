@@ -296,21 +296,20 @@ static void print_text(const char *before, const struct text *text) {
         fputs("undecodable", stdout);
 }
 
-/* the fields of a known item that is no pool; "all" also shows the major's byte */
-static void print_fields(const struct item *item, bool major_byte) {
+/* the fields of a known item that is no pool, as the lister has them */
+static void list_fields(const struct item *item) {
     const uint8_t *a = item->address;
     if (item->tag == 0x11)
         printf("flags %02X", item->flags);
     if (item->tag == 0x60)
         printf("address %02X:%02X:%02X:%02X:%02X:%02X", a[0], a[1], a[2], a[3], a[4], a[5]);
+    if (index_count(item->tag) == 2)
+        fputs("identity ", stdout);
     if (index_count(item->tag) >= 1)
         print_text("serial ", &item->serial);
     if (index_count(item->tag) == 2) {
         print_text(" part ", &item->part);
-        fputs(" major ", stdout);
-        if (major_byte)
-            printf("%02X ", item->major);
-        printf("%.2s minor %02u characters ", item->major_text, item->minor);
+        printf(" major %.2s minor %02u characters ", item->major_text, item->minor);
         print_quoted(item->characters, 2);
         if (item->length == 8)
             printf(" batch %04u", item->batch);
@@ -349,11 +348,45 @@ static void list_image(const uint8_t *image, size_t lent) {
                 putchar('\n');
             }
         } else {
-            if (index_count(item.tag) == 2)
-                fputs("identity ", stdout);
-            print_fields(&item, false);
+            list_fields(&item);
             putchar('\n');
         }
+    }
+}
+
+/* ---- every answer, in the form of tests/README.md ---- */
+
+static void print_hex(const char *before, const void *bytes, unsigned length) {
+    fputs(before, stdout);
+    for (unsigned i = 0; i < length; i++)
+        printf("%02x", ((const uint8_t *)bytes)[i]);
+}
+
+static void answer_text(const char *before, const struct text *text) {
+    fputs(before, stdout);
+    if (text->decodable)
+        print_hex("text ", text->bytes, text->length);
+    else
+        fputs("undecodable", stdout);
+}
+
+static void answer_fields(const struct item *item) {
+    if (item->tag == 0x01)
+        printf("strings %u data %u %u", item->strings, item->data, item->length);
+    if (item->tag == 0x11)
+        printf("flags %02x", item->flags);
+    if (item->tag == 0x60)
+        print_hex("address ", item->address, 6);
+    if (index_count(item->tag) >= 1)
+        answer_text("serial ", &item->serial);
+    if (index_count(item->tag) == 2) {
+        answer_text(" part ", &item->part);
+        printf(" major %02x", item->major);
+        print_hex(" shown ", item->major_text, 2);
+        printf(" minor %u", item->minor);
+        print_hex(" characters ", item->characters, 2);
+        if (item->length == 8)
+            printf(" batch %u", item->batch);
     }
 }
 
@@ -376,17 +409,16 @@ static void all_answers(const uint8_t *image, size_t lent, unsigned list) {
         printf("\nitem %u ", i);
         if (print_refusal(item_by_number(image, lent, list, i, &item)))
             continue;
-        printf("%02X place %u length %u ", item.tag, item.place, item.length);
-        fputs(item.known ? "known " : "unknown", stdout);
-        if (item.known && item.tag == 0x01)
-            printf("strings %u data %u %u", item.strings, item.data, item.length);
-        else if (item.known)
-            print_fields(&item, true);
+        printf("tag %02x place %u length %u ", item.tag, item.place, item.length);
+        if (item.known)
+            answer_fields(&item);
+        else
+            fputs("unknown", stdout);
     }
     for (unsigned i = 0; i <= strings + 1; i++) {
         printf("\nstring %u ", i);
         if (!print_refusal(string_by_number(image, lent, list, i, &text)))
-            print_text("", &text);
+            answer_text("", &text);
     }
     for (int i = 0; i < 4; i++) {
         uint8_t buffer[255];
@@ -395,9 +427,7 @@ static void all_answers(const uint8_t *image, size_t lent, unsigned list) {
         printf("\nname %u ", sizes[i]);
         if (!print_refusal(named))
             printf("length %u", named.value);
-        putchar(' ');
-        for (int b = 0; b < 8; b++)
-            printf("%02X", buffer[b]);
+        print_hex(" ", buffer, 8);
     }
     putchar('\n');
 }

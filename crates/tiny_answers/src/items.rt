@@ -1,29 +1,19 @@
 // Items by number.
+use super::text::put;
+use super::text::put_decimal;
+use super::text::put_hex;
+use super::text::put_refusal;
+use super::text::put_text;
 use kinds::Kinds;
+use octets::Six;
 use tiny::Identity;
 use tiny::Item;
 use tiny::ItemAnswer;
 use tiny::PoolShown;
 use tiny::ShownItem;
 use tiny::item_numbered;
-use tiny_print::put_address;
-use tiny_print::put_batch;
-use tiny_print::put_product;
-use tiny_print::put_reference;
-use tiny_print::put_revision;
-use tiny_print::text::put;
-use tiny_print::text::put_decimal;
-use tiny_print::text::put_hex;
-use verdict::Refusal;
-
-// A refusal.
-pub fn put_refused(refusal: Refusal) {
-    put(b"refused ");
-    put_decimal(refusal.number as usize);
-    put(b" ");
-    put_decimal(refusal.place);
-    put(b"\n");
-}
+use tiny::major_text;
+use tiny_layout::Reference;
 
 fn put_pool(shown: PoolShown) {
     put(b"strings ");
@@ -34,15 +24,44 @@ fn put_pool(shown: PoolShown) {
     put_decimal(shown.bytes.length);
 }
 
-fn put_identity(image: &[u8], identity: Identity) {
-    put_product(image, identity);
-    put(b" major ");
-    put_hex(identity.major);
-    put(b" ");
-    put_revision(identity);
+fn put_reference(image: &[u8], reference: Reference) {
+    match reference {
+        Reference::Text(span) => put_text(image, span),
+        Reference::Undecodable => put(b"undecodable"),
+    }
 }
 
-// The fields of a known item.
+fn put_address(six: Six) {
+    put(b"address ");
+    put_hex(six.b0);
+    put_hex(six.b1);
+    put_hex(six.b2);
+    put_hex(six.b3);
+    put_hex(six.b4);
+    put_hex(six.b5);
+}
+
+fn put_identity(image: &[u8], identity: Identity) {
+    let serial = identity.serial;
+    let part = identity.part;
+    put(b"serial ");
+    put_reference(image, serial);
+    put(b" part ");
+    put_reference(image, part);
+    put(b" major ");
+    put_hex(identity.major);
+    let shown = major_text(identity.major);
+    put(b" shown ");
+    put_hex(shown.first);
+    put_hex(shown.second);
+    put(b" minor ");
+    put_decimal(identity.minor as usize);
+    put(b" characters ");
+    put_hex(identity.characters.first);
+    put_hex(identity.characters.second);
+}
+
+// What a known item shows.
 fn put_fields(image: &[u8], item: Item) {
     match item {
         Item::Pool(shown) => put_pool(shown),
@@ -54,38 +73,27 @@ fn put_fields(image: &[u8], item: Item) {
             put(b"flags ");
             put_hex(flags);
         }
-        Item::Address(six) => {
-            put(b"address ");
-            put_address(six);
-        }
+        Item::Address(six) => put_address(six),
         Item::Identity(identity) => put_identity(image, identity),
         Item::Batched(batched) => {
             put_identity(image, batched.identity);
-            put_batch(batched.batch);
+            put(b" batch ");
+            put_decimal(batched.batch as usize);
         }
-        Item::NotKnown => put(b""),
+        Item::NotKnown => put(b"unknown"),
     }
 }
 
-// Whether an item is known.
-fn put_known(item: Item) {
-    let Item::NotKnown = item else {
-        put(b" known ");
-        return;
-    };
-    put(b" unknown");
-}
-
 fn put_shown(image: &[u8], shown: ShownItem) {
+    let item = shown.item;
+    put(b"tag ");
     put_hex(shown.tag);
     put(b" place ");
     put_decimal(shown.place);
     put(b" length ");
     put_decimal(shown.length);
-    let item = shown.item;
-    put_known(item);
+    put(b" ");
     put_fields(image, item);
-    put(b"\n");
 }
 
 fn put_item(image: &[u8], kinds: Kinds, number: usize) {
@@ -95,8 +103,9 @@ fn put_item(image: &[u8], kinds: Kinds, number: usize) {
     let answer = item_numbered(image, kinds, number);
     match answer {
         ItemAnswer::Shown(shown) => put_shown(image, shown),
-        ItemAnswer::Refused(refusal) => put_refused(refusal),
+        ItemAnswer::Refused(refusal) => put_refusal(refusal),
     }
+    put(b"\n");
 }
 
 // The items from 0 to the count.

@@ -4,8 +4,9 @@ use kinds::Kinds;
 use libc::STDIN_FILENO;
 use octets::byte_from;
 use octets::le16_at;
-use tiny_print::text::put;
-use tiny_print::text::put_decimal;
+use text::put;
+use text::put_decimal;
+use text::put_refusal;
 use tiny_rules::judge;
 use verdict::Judged;
 ghost use Prim.Native.Nat.{_≤_};
@@ -14,6 +15,7 @@ ghost use lib.ListN.{length};
 mod items;
 mod names;
 mod strings;
+mod text;
 
 // All answers for one image: the judge's, every item up to the count, every string up to the string count and one past it, and the name.
 fn put_answers(image: &[u8], kinds: Kinds) {
@@ -26,7 +28,8 @@ fn put_answers(image: &[u8], kinds: Kinds) {
             items::put_items(image, kinds, count);
         }
         Judged::Refused(refusal) => {
-            items::put_refused(refusal);
+            put_refusal(refusal);
+            put(b"\n");
             items::put_items(image, kinds, 0);
         }
     }

@@ -1,11 +1,11 @@
 // The name, into buffers of several sizes.
+use super::text::put;
+use super::text::put_decimal;
+use super::text::put_hex;
+use super::text::put_refusal;
 use kinds::Kinds;
 use tiny::NameAnswer;
 use tiny::name;
-use tiny_print::text::put;
-use tiny_print::text::put_decimal;
-use tiny_print::text::put_hex;
-use verdict::Refusal;
 ghost use Prim.Native.Nat.{_≤_};
 ghost use lib.ListN.{length};
 
@@ -21,20 +21,11 @@ fn put_bytes(block: &[u8]) {
     put(b"\n");
 }
 
-fn put_refusal(refusal: Refusal) {
-    put(b"refused ");
-    put_decimal(refusal.number as usize);
-    put(b" ");
-    put_decimal(refusal.place);
-    put(b" ");
-}
-
 fn put_answer(answer: NameAnswer) {
     match answer {
         NameAnswer::Length(n) => {
             put(b"length ");
             put_decimal(n);
-            put(b" ");
         }
         NameAnswer::Refused(refusal) => put_refusal(refusal),
     }
@@ -48,6 +39,7 @@ fn put_name(image: &[u8], kinds: Kinds, size: usize, block: &mut [u8])
     put_decimal(size);
     put(b" ");
     put_answer(name(image, kinds, &mut block[..size]));
+    put(b" ");
     put_bytes(block);
 }
 

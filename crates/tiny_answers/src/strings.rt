@@ -1,13 +1,12 @@
 // Strings by number.
-use super::items::put_refused;
+use super::text::put;
+use super::text::put_decimal;
+use super::text::put_refusal;
+use super::text::put_text;
 use kinds::Kinds;
 use tiny::StringAnswer;
 use tiny::string_numbered;
-use tiny_layout::Pool;
 use tiny_layout::string_count;
-use tiny_print::text::put;
-use tiny_print::text::put_decimal;
-use tiny_print::text::put_text;
 use tiny_rules::judge;
 use tiny_rules::pool_of;
 use verdict::Judged;
@@ -18,13 +17,11 @@ fn put_string(image: &[u8], kinds: Kinds, number: usize) {
     put(b" ");
     let answer = string_numbered(image, kinds, number);
     match answer {
-        StringAnswer::Text(span) => {
-            put_text(image, span);
-            put(b"\n");
-        }
-        StringAnswer::Undecodable => put(b"undecodable\n"),
-        StringAnswer::Refused(refusal) => put_refused(refusal),
+        StringAnswer::Text(span) => put_text(image, span),
+        StringAnswer::Undecodable => put(b"undecodable"),
+        StringAnswer::Refused(refusal) => put_refusal(refusal),
     }
+    put(b"\n");
 }
 
 // The string count of the listed pool; 0 of a refused image.

@@ -1,7 +1,14 @@
 // The lines of a listing.
+use super::fields::put_address;
+use super::fields::put_batch;
+use super::fields::put_identity;
+use super::fields::put_reference;
+use super::text::put;
+use super::text::put_decimal;
+use super::text::put_hex;
+use super::text::put_text;
 use super::words::put_rule;
 use kinds::Kinds;
-use tiny::Identity;
 use tiny::Item;
 use tiny::PoolShown;
 use tiny::ShownItem;
@@ -10,27 +17,10 @@ use tiny_layout::Pool;
 use tiny_layout::check_place;
 use tiny_layout::item_size;
 use tiny_layout::string_at;
-use tiny_print::put_address;
-use tiny_print::put_batch;
-use tiny_print::put_product;
-use tiny_print::put_reference;
-use tiny_print::put_revision;
-use tiny_print::text::put;
-use tiny_print::text::put_decimal;
-use tiny_print::text::put_hex;
-use tiny_print::text::put_text;
 use tiny_rules::judge;
 use tiny_rules::pool_of;
 use verdict::Judged;
 use verdict::Refusal;
-
-// An identity.
-fn put_identity(image: &[u8], identity: Identity) {
-    put(b"identity ");
-    put_product(image, identity);
-    put(b" major ");
-    put_revision(identity);
-}
 
 // The strings of a pool, a line for each.
 fn put_strings(image: &[u8], pool: Pool) {

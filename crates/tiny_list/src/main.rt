@@ -2,7 +2,9 @@
 use libc::STDERR_FILENO;
 use libc::STDIN_FILENO;
 
+mod fields;
 mod lines;
+mod text;
 mod words;
 
 // Whether the input is at its end: a read gives nothing, and does not fail.

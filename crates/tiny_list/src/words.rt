@@ -1,5 +1,5 @@
 // The rules in words.
-use tiny_print::text::put;
+use super::text::put;
 
 // The rule of a refusal number.
 pub fn put_rule(number: u8) {

@@ -34,6 +34,12 @@ name-requires c κs = search needs
 put-answer-requires : tie.Need-put-answer-requires
 put-answer-requires c κs = search needs
 
+slice-aggregate-put-3 : tie.Need-slice-aggregate-put-3
+slice-aggregate-put-3 c = search needs
+
+put-requires-3 : tie.Need-put-requires-3
+put-requires-3 c κs = search needs
+
 put-bytes-requires : tie.Need-put-bytes-requires
 put-bytes-requires c κs = search needs
 
@@ -56,6 +62,8 @@ put-name-spec =
     slice-aggregate-name
     name-requires
     put-answer-requires
+    slice-aggregate-put-3
+    put-requires-3
     put-bytes-requires
     same-length
     returns)

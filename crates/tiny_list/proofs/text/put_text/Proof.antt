@@ -2,8 +2,8 @@
 use Prim.Native.Nat.{_-_}
 use native.Mathlib.Omega.{arith}
 use borrow.Author.Needs.{needs}
-use Rattle.tiny_print.proofs.text.put_text.Statement.{statement}
-use Rattle.tiny_print.proofs.text.put_text.Tie as tie
+use Rattle.tiny_list.proofs.text.put_text.Statement.{statement}
+use Rattle.tiny_list.proofs.text.put_text.Tie as tie
 
 abbrev Inv-loop : tie.InvT-loop
 Inv-loop image span i₀ t5 i = Unit {0}

@@ -1,17 +1,14 @@
-// What the programs that print tiny images share: pieces of text, and the fields of items.
-// They answer nothing: what they print is compared with stored outputs and with another implementation.
+// The fields of an item, as text.
+use super::text::put;
+use super::text::put_character;
+use super::text::put_hex;
+use super::text::put_quoted;
+use super::text::put_text;
+use super::text::put_two;
 use octets::Six;
-use text::put;
-use text::put_character;
-use text::put_hex;
-use text::put_quoted;
-use text::put_text;
-use text::put_two;
 use tiny::Identity;
 use tiny::major_text;
 use tiny_layout::Reference;
-
-pub mod text;
 
 // A reference: its text, or that it is undecodable.
 pub fn put_reference(image: &[u8], reference: Reference) {
@@ -36,18 +33,15 @@ pub fn put_address(six: Six) {
     put_hex(six.b5);
 }
 
-// The serial and the part of an identity.
-pub fn put_product(image: &[u8], identity: Identity) {
+// Serial, part, major, minor and the two characters.
+pub fn put_identity(image: &[u8], identity: Identity) {
     let serial = identity.serial;
     let part = identity.part;
-    put(b"serial ");
+    put(b"identity serial ");
     put_reference(image, serial);
     put(b" part ");
     put_reference(image, part);
-}
-
-// Its major as two characters, minor, and two characters.
-pub fn put_revision(identity: Identity) {
+    put(b" major ");
     let major = major_text(identity.major);
     put_character(major.first);
     put_character(major.second);
