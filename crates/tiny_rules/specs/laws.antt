@@ -5,3 +5,5 @@ pub mod Accepted
 pub mod Shorter
 pub mod Range
 pub mod Same
+pub mod Front
+pub mod Smallest

@@ -36,9 +36,15 @@ pub orElse-right : (f g : Found) → orElse f g ≡ Nothing → g ≡ Nothing
 orElse-right (At p) g e = cc
 orElse-right Nothing g e = e
 
-orElse-assoc : (f g h : Found) → orElse (orElse f g) h ≡ orElse f (orElse g h)
+-- the first of three answers, however they are grouped
+pub orElse-assoc : (f g h : Found) → orElse (orElse f g) h ≡ orElse f (orElse g h)
 orElse-assoc (At p) g h = refl
 orElse-assoc Nothing g h = refl
+
+-- nothing as the second answer adds nothing
+pub orElse-nothing : (f : Found) → orElse f Nothing ≡ f
+orElse-nothing (At p) = refl
+orElse-nothing Nothing = refl
 
 -- ---- nothing is found exactly where no item breaks the rule
 pub first-all : (rule : ℕ → Found) (l : List ℕ) → first rule l ≡ Nothing → All (λ x. rule x ≡ Nothing) l
