@@ -3,7 +3,7 @@
 
     run.py [IMAGES [SEED]]
 
-1. every sample is listed as stored beside it;
+1. every sample is listed as stored beside it; input of a million bytes is listed, and a read error is said;
 2. every answer of `tiny_answers` for IMAGES images, each with two lists, is the answer of tests/reference/tiny.c, and the judge's answer
    with the full list is the one that the image was made for;
 3. `tiny_list` lists some of them as tests/reference/tiny.c does;
@@ -26,9 +26,13 @@ LISTED = 600
 BIN = os.path.join("target", "bin")
 
 
+# what is not freed at the end is no mistake here, and looking for it needs rights that a build machine may not give
+ENVIRONMENT = {**os.environ, "ASAN_OPTIONS": "detect_leaks=0"}
+
+
 def output(program, *words, given=b""):
     """What a program writes to standard output."""
-    return subprocess.run([program, *words], input=given, stdout=subprocess.PIPE, check=True).stdout
+    return subprocess.run([program, *words], input=given, stdout=subprocess.PIPE, check=True, env=ENVIRONMENT).stdout
 
 
 def fail(text):
@@ -56,6 +60,21 @@ def samples(reference):
             if output(program, *words, given=image) != stored:
                 fail("samples/%s.bin: %s does not write samples/%s.txt" % (name, program, name))
     return len(names)
+
+
+def other_input():
+    """Input that is far longer than an image, and input that cannot be read: a folder."""
+    program = os.path.join(BIN, "tiny_list")
+    with open("samples/case4.bin", "rb") as image, open("samples/case4.txt", "rb") as stored, tempfile.TemporaryFile() as long:
+        long.write(image.read() + bytes(10 ** 6))
+        long.seek(0)
+        if subprocess.run([program], stdin=long, stdout=subprocess.PIPE, check=True).stdout != stored.read():
+            fail("case 4 with a million bytes behind it is not listed as case 4")
+    folder = os.open(".", os.O_RDONLY)
+    run = subprocess.run([program], stdin=folder, stdout=subprocess.PIPE, stderr=subprocess.PIPE, check=True)
+    os.close(folder)
+    if run.stdout or run.stderr != b"tiny_list: standard input cannot be read\n":
+        fail("a read error is not said on standard error")
 
 
 def record(mask, image):
@@ -111,6 +130,7 @@ def main():
     with tempfile.TemporaryDirectory() as folder:
         reference = build(folder)
         print("tests: %d samples listed as stored" % samples(reference))
+        other_input()
         counts, compared = compare(reference, made, seed)
         print("tests: %d images with two lists each, %d answered as by tests/reference/tiny.c" % (number, compared))
         print("tests: accepted %d; refused " % counts.get(0, 0)
