@@ -14,8 +14,9 @@ use Rattle.kinds.specs.declared.Kind.the-variants.{Tag}
 use Rattle.kinds.specs.declared.Kinds.{Kinds}
 use Rattle.octets.specs.Bytes.{byte}
 use Rattle.tiny_layout.specs.Layout.{items}
-use Rattle.tiny_layout.specs.Pool.{pool}
-use Rattle.tiny_layout.specs.Strings.{textOf, reference}
+use Rattle.tiny_layout.specs.Pool.{isOf, pool}
+use Rattle.tiny_layout.specs.Strings.{strings, spanAt, textOf}
+use Rattle.tiny_layout.specs.declared.Pool.{Pool}
 use Rattle.tiny_layout.specs.declared.Reference.{Reference}
 use Rattle.tiny_rules.specs.Judged.{judged}
 use Rattle.tiny.specs.Items.{itemAt}
@@ -27,13 +28,13 @@ use Rattle.verdict.specs.declared.Judged.{Judged}
 use Rattle.verdict.specs.declared.Refusal.{Refusal}
 
 -- 42, 43 and 44 have the place 0
-abbrev pub number : ℕ → Refusal
-number n = record { number = n; place = 0 }
+abbrev pub refusedWith : ℕ → Refusal
+refusedWith n = record { number = n; place = 0 }
 
 -- ---- item by number: 42 where the number is not below the count
 abbrev pub numbered : Kinds → List ℕ → Found → ItemAnswer
 numbered k s (At p) = ItemAnswer.Shown (itemAt k s (pool k s) p)
-numbered k s Nothing = ItemAnswer.Refused (number 42)
+numbered k s Nothing = ItemAnswer.Refused (refusedWith 42)
 
 abbrev pub itemIf : Kinds → List ℕ → ℕ → Judged → ItemAnswer
 itemIf k s n (Judged.Accepted count) = numbered k s (nth (items s) n)
@@ -43,13 +44,13 @@ unfoldable pub itemNumbered : Kinds → List ℕ → ℕ → ItemAnswer
 itemNumbered k s n = itemIf k s n (judged k s)
 
 -- ---- string by number: 42 where the listed pool has none of that number
-abbrev pub looked : Reference → StringAnswer
-looked (Reference.Text span) = StringAnswer.Text span
-looked Reference.Undecodable = StringAnswer.Refused (number 42)
+abbrev pub looked : List ℕ → Pool → Found → StringAnswer
+looked s pool (At p) = StringAnswer.Text (spanAt s (pool .to) p)
+looked s pool Nothing = StringAnswer.Refused (refusedWith 42)
 
 -- "a string looked up by any number, is undecodable exactly when 01 is not on the list"
 abbrev pub stringIf : Kinds → List ℕ → ℕ → Judged → StringAnswer
-stringIf k s n (Judged.Accepted count) = cond (listed k (Tag 0x01)) (looked (reference s (pool k s) n)) StringAnswer.Undecodable
+stringIf k s n (Judged.Accepted count) = cond (listed k (Tag 0x01)) (looked s (pool k s) (nth (strings s (pool k s)) n)) StringAnswer.Undecodable
 stringIf k s n (Judged.Refused r) = StringAnswer.Refused r
 
 unfoldable pub stringNumbered : Kinds → List ℕ → ℕ → StringAnswer
@@ -58,7 +59,7 @@ stringNumbered k s n = stringIf k s n (judged k s)
 -- ---- the name: what is answered, and what the lent buffer then holds
 -- whether the item at p is of tag 10, and known
 abbrev pub isSerial : Kinds → List ℕ → ℕ → Bool
-isSerial k s p = listed k (Tag 0x10) && eqb (byte s p) 0x10
+isSerial k s p = isOf k s 0x10 p
 
 -- the places of these items
 abbrev pub serials : Kinds → List ℕ → List ℕ
@@ -78,13 +79,13 @@ serialOf Item.NotKnown = Reference.Undecodable
 abbrev pub copied : List ℕ → List ℕ → Reference → NameAnswer × List ℕ
 copied s buffer (Reference.Text span) =
     cond (leb (span .length) (length buffer)) (NameAnswer.Length (span .length), textOf s span ++ drop (span .length) buffer)
-    (NameAnswer.Refused (number 43), buffer)
-copied s buffer Reference.Undecodable = (NameAnswer.Refused (number 44), buffer)
+    (NameAnswer.Refused (refusedWith 43), buffer)
+copied s buffer Reference.Undecodable = (NameAnswer.Refused (refusedWith 44), buffer)
 
 -- 44 where there is not exactly one such item
 abbrev pub nameAt : Kinds → List ℕ → List ℕ → Found → NameAnswer × List ℕ
 nameAt k s buffer (At p) = copied s buffer (serialOf (itemAt k s (pool k s) p .item))
-nameAt k s buffer Nothing = (NameAnswer.Refused (number 44), buffer)
+nameAt k s buffer Nothing = (NameAnswer.Refused (refusedWith 44), buffer)
 
 -- of an accepted image
 abbrev pub nameIn : Kinds → List ℕ → List ℕ → NameAnswer × List ℕ

@@ -91,7 +91,7 @@ examples =
             serial = text top1;
             part = text (0x50 ∷ 0x37 ∷ []);
             major = 0x99;
-            shown = record { first = 0x30; second = 0x5A };
+            letters = record { first = 0x30; second = 0x5A };
             minor = 5;
             characters = record { first = 0x41; second = 0x42 };
           })

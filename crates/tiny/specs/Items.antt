@@ -10,7 +10,7 @@ use Rattle.kinds.specs.declared.Kinds.{Kinds}
 use Rattle.octets.specs.Bytes.{byte, le16}
 use Rattle.octets.specs.Runs.{sixAt}
 use Rattle.tiny_layout.specs.Layout.{dataLength, dataAt}
-use Rattle.tiny_layout.specs.Pool.{poolAt}
+use Rattle.tiny_layout.specs.Pool.{isKnown, poolAt}
 use Rattle.tiny_layout.specs.Strings.{texts, reference}
 use Rattle.tiny_layout.specs.Tags.{shapeOf}
 use Rattle.tiny_layout.specs.declared.Pool.{Pool}
@@ -39,7 +39,7 @@ batchedAt s pool start = record { identity = identityAt s pool start; batch = le
 -- 01: the string count; place and length of the data
 unfoldable pub poolShown : List ℕ → Pool → PoolShown
 poolShown s pool =
-    record { strings = length (texts s pool); bytes = record { place = pool .from; length = pool .to - pool .from } }
+    record { count = length (texts s pool); bytes = record { place = pool .from; length = pool .to - pool .from } }
 
 -- the fields of the item at p, by the row of its tag; strings are those of the pool given
 abbrev pub fieldsAt : List ℕ → Pool → Shape → ℕ → Item
@@ -58,5 +58,5 @@ itemAt k s pool p =
       tag = byte s p;
       place = p;
       length = dataLength s p;
-      item = cond (listed k (Tag (byte s p))) (fieldsAt s pool (shapeOf (byte s p)) p) Item.NotKnown;
+      item = cond (isKnown k s p) (fieldsAt s pool (shapeOf (byte s p)) p) Item.NotKnown;
     }

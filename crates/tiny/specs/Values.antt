@@ -25,7 +25,7 @@ pub record IdentityValues : Type 0 where
   pub serial : ReferenceValue
   pub part : ReferenceValue
   pub major : ℕ
-  pub shown : Two
+  pub letters : Two
   pub minor : ℕ
   pub characters : Two
 
@@ -56,7 +56,7 @@ identityValues s x =
       serial = referenceValue s (x .serial);
       part = referenceValue s (x .part);
       major = x .major;
-      shown = majorText (x .major);
+      letters = majorText (x .major);
       minor = x .minor;
       characters = x .characters;
     }
@@ -65,7 +65,7 @@ abbrev pub bytesOf : Six → List ℕ
 bytesOf x = x .b0 ∷ x .b1 ∷ x .b2 ∷ x .b3 ∷ x .b4 ∷ x .b5 ∷ []
 
 abbrev pub fieldValues : List ℕ → Item → FieldValues
-fieldValues s (Item.Pool x) = pool (x .strings) (x .bytes .place) (x .bytes .length)
+fieldValues s (Item.Pool x) = pool (x .count) (x .bytes .place) (x .bytes .length)
 fieldValues s (Item.Serial r) = serial (referenceValue s r)
 fieldValues s (Item.Flags b) = flags b
 fieldValues s (Item.Address x) = address (bytesOf x)

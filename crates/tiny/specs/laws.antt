@@ -1,5 +1,6 @@
 -- What is proved of the definitions. Assumes nothing.
 pub mod Major
+pub mod Strings
 pub mod Serials
 pub mod Same
 pub mod Resolved

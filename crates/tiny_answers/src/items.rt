@@ -17,7 +17,7 @@ use tiny_layout::Reference;
 
 fn put_pool(shown: PoolShown) {
     put(b"strings ");
-    put_decimal(shown.strings);
+    put_decimal(shown.count);
     put(b" data ");
     put_decimal(shown.bytes.place);
     put(b" ");

@@ -13,8 +13,8 @@ abbrev pub total : List ℕ → ℕ
 total s = byte s 2
 
 -- the place of the check byte, L - 1: the items end there
-abbrev pub last : List ℕ → ℕ
-last s = total s - 1
+abbrev pub checkPlace : List ℕ → ℕ
+checkPlace s = total s - 1
 
 -- a long tag: its high four bits are 0, and a length byte follows
 abbrev pub isLong : ℕ → Bool
@@ -42,4 +42,4 @@ next s p = p + size s p
 
 -- the places of the items: end to end from place 3 up to the check byte
 abbrev pub items : List ℕ → List ℕ
-items s = chain (next s) (last s) 3
+items s = chain (next s) (checkPlace s) 3

@@ -74,6 +74,7 @@ abbrev pub referenceAt : List ℕ → Pool → Found → Reference
 referenceAt s pool (At p) = Text (spanAt s (pool .to) p)
 referenceAt s pool Nothing = Undecodable
 
--- the string of number n in a pool; undecodable where the pool has none of that number, as it has none of any where 01 is not on the list
+-- what an index n refers to in a pool: the string of that number; undecodable where the pool has none. In an accepted image that is exactly where 01
+-- is not on the list: then the pool is empty, and else rule 10 refuses such an index
 unfoldable pub reference : List ℕ → Pool → ℕ → Reference
 reference s pool n = referenceAt s pool (nth (strings s pool) n)

@@ -18,14 +18,14 @@ shapeOf tag =
     (cond (eqb tag 0x81) Batched Other)))))))
 
 -- how many string indexes the data begin with: 10 has the serial's, 61, 62, 80 and 81 the serial's and the part's
-abbrev pub references : Shape → ℕ
-references Pool = 0
-references Serial = 1
-references Flags = 0
-references Address = 0
-references Identity = 2
-references Batched = 2
-references Other = 0
+abbrev pub indexCount : Shape → ℕ
+indexCount Pool = 0
+indexCount Serial = 1
+indexCount Flags = 0
+indexCount Address = 0
+indexCount Identity = 2
+indexCount Batched = 2
+indexCount Other = 0
 
 -- how many data bytes the row's fields take
 abbrev pub fieldBytes : Shape → ℕ

@@ -9,11 +9,11 @@ ghost use Prim.Native.Nat.{ℕ, _+_, _<_};
 ghost use lib.ListN.{length};
 ghost use Rattle.chain.specs.Chain.{chain};
 ghost use Rattle.chain.specs.Nth.{nth};
-ghost use Rattle.tiny_layout.specs.Layout.{headSize, dataLength, size, last, items};
+ghost use Rattle.tiny_layout.specs.Layout.{headSize, dataLength, size, checkPlace, items};
 ghost use Rattle.chain.specs.declared.Found.{Found};
 ghost use Rattle.tiny_layout.specs.Pool.{poolAt};
 ghost use Rattle.tiny_layout.specs.Strings.{stringEnd, strings, texts, spanAt, reference};
-ghost use Rattle.tiny_layout.specs.Tags.{shapeOf, references};
+ghost use Rattle.tiny_layout.specs.Tags.{shapeOf, indexCount};
 ghost use Rattle.tiny_layout.specs.Along.{following};
 
 // What the data of an item are: a row of the paper's table.
@@ -63,8 +63,8 @@ pub fn shape_of(tag: u8) -> Shape
 }
 
 // How many string indexes the data begin with.
-pub fn reference_count(shape: Shape) -> u8
-    ensures { λ r. ⌜ r ≡ references shape ⌝ }
+pub fn index_count(shape: Shape) -> u8
+    ensures { λ r. ⌜ r ≡ indexCount shape ⌝ }
 {
     match shape {
         Shape::Pool => 0,
@@ -104,7 +104,7 @@ pub fn item_size(image: &[u8], at: usize) -> u16
 
 // The place of the check byte, L - 1.
 pub fn check_place(image: &[u8]) -> u8
-    ensures { λ r. ⌜ r ≡ last (now (image .entry)) ⌝ }
+    ensures { λ r. ⌜ r ≡ checkPlace (now (image .entry)) ⌝ }
 {
     let length = byte_at(image, 2);
     if length == 0 {

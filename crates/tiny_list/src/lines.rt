@@ -40,7 +40,7 @@ fn put_strings(image: &[u8], pool: Pool) {
 // A pool: how many strings, and then these.
 fn put_pool(image: &[u8], pool: Pool, shown: PoolShown) {
     put(b"pool strings ");
-    put_decimal(shown.strings);
+    put_decimal(shown.count);
     put_strings(image, pool);
 }
 

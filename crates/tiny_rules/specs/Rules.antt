@@ -14,10 +14,10 @@ use Rattle.kinds.specs.declared.Kind.the-variants.{Tag}
 use Rattle.kinds.specs.declared.Kinds.{Kinds}
 use Rattle.octets.specs.Bytes.{byte, le16}
 use Rattle.octets.specs.Label.{isText}
-use Rattle.tiny_layout.specs.Layout.{total, last, dataAt, next, items}
-use Rattle.tiny_layout.specs.Pool.{pool}
+use Rattle.tiny_layout.specs.Layout.{total, checkPlace, dataAt, next, items}
+use Rattle.tiny_layout.specs.Pool.{isKnown, isOf, pool}
 use Rattle.tiny_layout.specs.Strings.{isMarked, letter, texts}
-use Rattle.tiny_layout.specs.Tags.{shapeOf, references}
+use Rattle.tiny_layout.specs.Tags.{shapeOf, indexCount}
 use Rattle.tiny_layout.specs.declared.Pool.{Pool}
 use Rattle.tiny_layout.specs.declared.Shape.{Shape}
 
@@ -39,11 +39,11 @@ rule4 s = when (ltb (total s) 4 || ltb (length s) (total s)) 2
 
 -- 5: CRC-8 over the first L - 1 bytes
 unfoldable pub rule5 : List ℕ → Found
-rule5 s = when (not (eqb (byte s (last s)) (crc8 (take (last s) s)))) (last s)
+rule5 s = when (not (eqb (byte s (checkPlace s)) (crc8 (take (checkPlace s) s)))) (checkPlace s)
 
 -- 6: an item, or its length byte, passes L - 1
 abbrev pub passes : List ℕ → ℕ → Found
-passes s p = when (ltb (last s) (dataAt s p) || ltb (last s) (next s p)) p
+passes s p = when (ltb (checkPlace s) (dataAt s p) || ltb (checkPlace s) (next s p)) p
 
 unfoldable pub rule6 : List ℕ → Found
 rule6 s = first (passes s) (items s)
@@ -55,9 +55,9 @@ reserved s p = when (eqb (byte s p) 0x00) p
 unfoldable pub rule7 : List ℕ → Found
 rule7 s = first (reserved s) (items s)
 
--- 8: listed pool is not the last item
+-- 8: listed pool is not the last item. (Rule 6 comes first, so an item that ends before the check byte has another behind it.)
 abbrev pub early : Kinds → List ℕ → ℕ → Found
-early k s p = when (listed k (Tag 0x01) && eqb (byte s p) 0x01 && ltb (next s p) (last s)) p
+early k s p = when (isOf k s 0x01 p && ltb (next s p) (checkPlace s)) p
 
 unfoldable pub rule8 : Kinds → List ℕ → Found
 rule8 k s = first (early k s) (items s)
@@ -71,14 +71,14 @@ rule9 k s = first (unfit s (pool k s .to)) (range (pool k s .from) (pool k s .to
 
 -- a rule on the data of the known items: by the row of their tag, and where their data begin
 abbrev pub onKnown : Kinds → List ℕ → (Shape → ℕ → Found) → ℕ → Found
-onKnown k s rule p = cond (listed k (Tag (byte s p))) (rule (shapeOf (byte s p)) (dataAt s p)) Nothing
+onKnown k s rule p = cond (isKnown k s p) (rule (shapeOf (byte s p)) (dataAt s p)) Nothing
 
 -- 10: pool listed, known item's index not below the string count (0 without a pool)
 abbrev pub beyond : List ℕ → ℕ → ℕ → Found
 beyond s count p = when (leb count (byte s p)) p
 
 unfoldable pub badIndex : List ℕ → ℕ → Shape → ℕ → Found
-badIndex s count shape start = first (beyond s count) (range start (start + references shape))
+badIndex s count shape start = first (beyond s count) (range start (start + indexCount shape))
 
 unfoldable pub rule10 : Kinds → List ℕ → Found
 rule10 k s =

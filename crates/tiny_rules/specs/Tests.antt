@@ -3,7 +3,7 @@ use Prim.Native.Nat.{ℕ}
 use mathlib.Core.List.{List}
 use Rattle.chain.specs.declared.Found.{Found}
 use Rattle.kinds.specs.declared.Kinds.{Kinds}
-use Rattle.tiny_layout.specs.Pool.{isKnown}
+use Rattle.tiny_layout.specs.Pool.{knownOf}
 use Rattle.tiny_layout.specs.declared.Shape.{Shape}
 use Rattle.tiny_rules.specs.Rules.{passes, reserved, early, onKnown, badIndex, badField}
 use Rattle.tiny_rules.specs.declared.fields.DataRule.{DataRule}
@@ -21,4 +21,4 @@ asked Passes k s = passes s
 asked Reserved k s = reserved s
 asked Early k s = early k s
 asked (Data rule) k s = onKnown k s (dataRule rule s)
-asked (Known tag) k s = isKnown k s tag
+asked (Known tag) k s = knownOf k s tag

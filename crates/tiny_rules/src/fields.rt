@@ -4,7 +4,7 @@ use octets::byte_at;
 use octets::label::is_text;
 use octets::le16_at;
 use tiny_layout::Shape;
-use tiny_layout::reference_count;
+use tiny_layout::index_count;
 ghost use mathlib.Core.Path.{_≡_};
 ghost use Prim.Native.Nat.{_<_};
 ghost use Rattle.chain.specs.First.{orElse};
@@ -22,7 +22,7 @@ fn bad_index(image: &[u8], count: usize, shape: Shape, start: usize) -> Found
     requires { ⌜ start < 65536 ⌝ }
     ensures { λ r. ⌜ r ≡ badIndex (now (image .entry)) count shape start ⌝ }
 {
-    let end = start + reference_count(shape) as usize;
+    let end = start + index_count(shape) as usize;
     let mut at = start;
     while at < end {
         if count <= byte_at(image, at) as usize {

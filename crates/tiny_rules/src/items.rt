@@ -12,8 +12,8 @@ ghost use mathlib.Core.Path.{_≡_};
 ghost use Prim.Native.Nat.{_<_};
 ghost use Rattle.chain.specs.Chain.{chain};
 ghost use Rattle.chain.specs.First.{first};
-ghost use Rattle.tiny_layout.specs.Layout.{last, next};
-ghost use Rattle.tiny_layout.specs.Pool.{isKnown};
+ghost use Rattle.tiny_layout.specs.Layout.{checkPlace, next};
+ghost use Rattle.tiny_layout.specs.Pool.{knownOf};
 ghost use Rattle.tiny_rules.specs.Rules.{passes, early, onKnown};
 ghost use Rattle.tiny_rules.specs.Tests.{dataRule, asked};
 
@@ -43,7 +43,7 @@ fn passes_at(image: &[u8], at: usize) -> Found
 
 // An item of a tag that is on the list.
 fn known_at(image: &[u8], kinds: Kinds, tag: u8, at: usize) -> Found
-    ensures { λ r. ⌜ r ≡ isKnown kinds (now (image .entry)) tag at ⌝ }
+    ensures { λ r. ⌜ r ≡ knownOf kinds (now (image .entry)) tag at ⌝ }
 {
     if kinds.has_tag(tag) {
         if byte_at(image, at) == tag {
@@ -106,7 +106,7 @@ fn ask(test: Test, image: &[u8], kinds: Kinds, at: usize) -> Found
 
 // The first answer along the items from a place on.
 pub fn first_from(test: Test, image: &[u8], kinds: Kinds, from: usize) -> Found
-    ensures { λ r. ⌜ r ≡ first (asked test kinds (now (image .entry))) (chain (next (now (image .entry))) (last (now (image .entry))) from) ⌝ }
+    ensures { λ r. ⌜ r ≡ first (asked test kinds (now (image .entry))) (chain (next (now (image .entry))) (checkPlace (now (image .entry))) from) ⌝ }
 {
     let end = check_place(image) as usize;
     let mut at = from;

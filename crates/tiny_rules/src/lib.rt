@@ -12,7 +12,7 @@ ghost use mathlib.Core.List.{_∷_};
 ghost use lib.ListN.{length, drop};
 ghost use Rattle.chain.specs.Chain.{chain};
 ghost use Rattle.chain.specs.First.{first};
-ghost use Rattle.tiny_layout.specs.Layout.{total, last, next, items};
+ghost use Rattle.tiny_layout.specs.Layout.{total, checkPlace, next, items};
 ghost use Rattle.tiny_layout.specs.Pool.{pool};
 ghost use Rattle.tiny_rules.specs.Judged.{rules, judged};
 ghost use Rattle.tiny_rules.specs.Rules.{rule5, rule9, rule10};
@@ -30,7 +30,7 @@ use items::first_from;
 
 // Rule 5: the check byte's place, where it is not the CRC-8 of the bytes before it.
 fn bad_check(image: &[u8]) -> Found
-    requires { ⌜ last (now image) ≤ length (now image) ⌝ }
+    requires { ⌜ checkPlace (now image) ≤ length (now image) ⌝ }
     ensures { λ r. ⌜ r ≡ rule5 (now (image .entry)) ⌝ }
 {
     let end = check_place(image) as usize;
@@ -79,7 +79,7 @@ fn judge_data(image: &[u8], kinds: Kinds) -> Judged
 
 // The rules from 5 on.
 fn judge_items(image: &[u8], kinds: Kinds) -> Judged
-    requires { ⌜ last (now image) ≤ length (now image) ⌝ }
+    requires { ⌜ checkPlace (now image) ≤ length (now image) ⌝ }
     ensures { λ r. ⌜ r ≡ answer (drop 4 (rules kinds (now (image .entry)))) (Judged.Accepted (length (items (now (image .entry))))) ⌝ }
 {
     if let Found::At(p) = bad_check(image) {

@@ -5,17 +5,7 @@ use mathlib.Core.List.{List, [], _∷_}
 use Rattle.chain.specs.declared.Found.{Found}
 use Rattle.chain.specs.declared.Found.the-variants.{At, Nothing}
 use Rattle.verdict.specs.declared.Judged.{Judged}
-use Rattle.verdict.specs.declared.Judged.the-variants.{Accepted, Refused}
-
--- the paper's numbers of an answer: the refusal's number (0: accepted), its place, and the count of items. "All other result fields are 0."
-pub record Values : Type 0 where
-  pub number : ℕ
-  pub place : ℕ
-  pub count : ℕ
-
-abbrev pub values : Judged → Values
-values (Accepted n) = record { number = 0; place = 0; count = n }
-values (Refused r) = record { number = r .number; place = r .place; count = 0 }
+use Rattle.verdict.specs.declared.Judged.the-variants.{Refused}
 
 -- refused with this number at this place
 abbrev pub refusal : ℕ → ℕ → Judged

@@ -1,4 +1,4 @@
--- `string_numbered` meets its contract: the verdict, then the list, then the string of the number. Assumes nothing.
+-- `string_numbered` meets its contract: the verdict, then the list, then the place of the number. Assumes nothing.
 use mathlib.Core.Path.{sym, _∙_}
 use borrow.Author.Needs.{needs}
 use Rattle.tiny.proofs.string_numbered.Statement.{statement}
@@ -20,22 +20,25 @@ has-tag-requires c κs = search needs
 pool-of-requires : tie.Need-pool-of-requires
 pool-of-requires c κs = search needs
 
-find-string-requires : tie.Need-find-string-requires
-find-string-requires c κs = search needs
+string-place-requires : tie.Need-string-place-requires
+string-place-requires c κs = search needs
 
-enum-known-reference : tie.Need-enum-known-reference
-enum-known-reference c = search needs
+enum-known-at : tie.Need-enum-known-at
+enum-known-at c = search needs
 
 enum-told-2 : tie.Need-enum-told-2
 enum-told-2 c = search needs
 
 returns : tie.Need-returns
 unfolding stringNumbered
-returns c = rw (sym (c .before .before .before .before .before .before .before .before .judge .ensures) ∙ c .before .before .before .before .before .before .enum-told .given .1, sym (c .before .before .before .before .before .has-tag .ensures) ∙ c .before .before .before .before .if1 .taken, rw (c .before .before .before .pool-of .ensures) at (sym (c .before .before .find-string .ensures) ∙ c .enum-told2 .given .1))
+returns c = rw (sym (c .before .before .before .before .before .before .before .before .judge .ensures) ∙ c .before .before .before .before .before .before .enum-told .given .1, sym (c .before .before .before .before .before .has-tag .ensures) ∙ c .before .before .before .before .if1 .taken, rw (c .before .before .before .pool-of .ensures) at (sym (c .before .before .string-place .ensures) ∙ c .enum-told2 .given .1))
+
+string-at-requires : tie.Need-string-at-requires
+string-at-requires c κs = search needs
 
 returns-2 : tie.Need-returns-2
 unfolding stringNumbered
-returns-2 c = rw (sym (c .before .before .before .before .before .before .before .before .before .judge .ensures) ∙ c .before .before .before .before .before .before .before .enum-told .given .1, sym (c .before .before .before .before .before .before .has-tag .ensures) ∙ c .before .before .before .before .before .if1 .taken, rw (c .before .before .before .before .pool-of .ensures) at (sym (c .before .before .before .find-string .ensures) ∙ c .before .reference .given .1))
+returns-2 c = rw (sym (c .before .before .before .before .before .before .before .before .before .before .judge .ensures) ∙ c .before .before .before .before .before .before .before .before .enum-told .given .1, sym (c .before .before .before .before .before .before .before .has-tag .ensures) ∙ c .before .before .before .before .before .before .if1 .taken, rw (c .before .before .before .before .before .pool-of .ensures) at (sym (c .before .before .before .before .string-place .ensures) ∙ c .before .before .at .given .1), rw (c .before .before .before .before .before .pool-of .ensures) at (c .string-at .ensures))
 
 returns-3 : tie.Need-returns-3
 unfolding stringNumbered
@@ -54,10 +57,11 @@ string-numbered-spec =
     enum-told
     has-tag-requires
     pool-of-requires
-    find-string-requires
-    enum-known-reference
+    string-place-requires
+    enum-known-at
     enum-told-2
     returns
+    string-at-requires
     returns-2
     returns-3
     returns-4)

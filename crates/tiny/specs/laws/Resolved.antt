@@ -25,7 +25,7 @@ use Rattle.octets.specs.declared.Span.{Span}
 use Rattle.tiny_layout.specs.Layout.{dataAt, items}
 use Rattle.tiny_layout.specs.Pool.{pool}
 use Rattle.tiny_layout.specs.Strings.{letter, texts, strings, spanAt, textOf, referenceAt, reference}
-use Rattle.tiny_layout.specs.Tags.{shapeOf, references}
+use Rattle.tiny_layout.specs.Tags.{shapeOf, indexCount}
 use Rattle.tiny_layout.specs.declared.Pool.{Pool}
 use Rattle.tiny_layout.specs.declared.Reference.{Reference}
 use Rattle.tiny_layout.specs.declared.Shape.{Shape}
@@ -33,13 +33,14 @@ use Rattle.tiny_layout.specs.laws.Pool.{no-pool}
 use Rattle.tiny_layout.specs.laws.Texts.{textAt, texts-placed, texts-count}
 use Rattle.tiny_rules.specs.Judged.{judged}
 use Rattle.tiny_rules.specs.laws.Accepted.{indexes-resolve}
-use Rattle.tiny.specs.Answers.{numbered, itemIf, itemNumbered, looked, stringIf, stringNumbered, serials, serialOf, copied, nameAt, nameIf, nameOf}
+use Rattle.tiny.specs.Answers.{numbered, itemIf, itemNumbered, stringIf, stringNumbered, serials, serialOf, copied, nameAt, nameIf, nameOf}
 use Rattle.tiny.specs.Items.{identityAt, batchedAt, fieldsAt, itemAt}
 use Rattle.tiny.specs.Values.{ReferenceValue, text, undecodable, FieldValues, ItemValues, referenceValue, fieldValues, itemValues, itemSaid, stringSaid}
 use Rattle.tiny.specs.declared.Item.{Item}
 use Rattle.tiny.specs.declared.NameAnswer.{NameAnswer}
 use Rattle.tiny.specs.declared.StringAnswer.{StringAnswer}
 use Rattle.tiny.specs.laws.Serials.{only-serial, serial-shown}
+use Rattle.tiny.specs.laws.Strings.{asString, string-by-reference}
 use Rattle.verdict.specs.Said.{says, refused}
 use Rattle.verdict.specs.declared.Judged.the-variants.{Accepted}
 
@@ -110,7 +111,7 @@ each-map P Q f FieldValues.notKnown h = tt
 -- what holds of the reference at each index byte of the item at p holds of each reference of its fields
 fields-each :
     (s : List ℕ) (x : Pool) (P : ℕ → ReferenceValue → Type 0) (p : ℕ) (a : Shape)
-    → ((i : ℕ) → i < references a → P i (referenceValue s (reference s x (byte s (dataAt s p + i)))))
+    → ((i : ℕ) → i < indexCount a → P i (referenceValue s (reference s x (byte s (dataAt s p + i)))))
     → EachIndexed P (fieldValues s (fieldsAt s x a p))
 unfolding identityAt batchedAt
 fields-each s x P p a h = go a h
@@ -118,7 +119,7 @@ fields-each s x P p a h = go a h
     first : P 0 (referenceValue s (reference s x (byte s (dataAt s p + 0)))) → P 0 (referenceValue s (reference s x (byte s (dataAt s p))))
     first = subst (λ (q : ℕ). P 0 (referenceValue s (reference s x (byte s q)))) (omega arith)
 
-    go : (a : Shape) → ((i : ℕ) → i < references a → P i (referenceValue s (reference s x (byte s (dataAt s p + i))))) → EachIndexed P (fieldValues s (fieldsAt s x a p))
+    go : (a : Shape) → ((i : ℕ) → i < indexCount a → P i (referenceValue s (reference s x (byte s (dataAt s p + i))))) → EachIndexed P (fieldValues s (fieldsAt s x a p))
     go Shape.Pool h = tt
     go Shape.Serial h = first (h 0 (omega arith))
     go Shape.Flags h = tt
@@ -142,13 +143,13 @@ module _ (k : Kinds) (s : List ℕ) (c : ℕ) (e : judged k s ≡ Accepted c) wh
   -- the indexes of a known item at p are below the string count
   abbrev IndexesBelow : ℕ → Type 0
   IndexesBelow p =
-      listed k (Tag (byte s p)) ≡ true → (i : ℕ) → i < references (shapeOf (byte s p)) → byte s (dataAt s p + i) < length (texts s (pool k s))
+      listed k (Tag (byte s p)) ≡ true → (i : ℕ) → i < indexCount (shapeOf (byte s p)) → byte s (dataAt s p + i) < length (texts s (pool k s))
 
   -- ---- item by number
   -- a claim about each reference of a known item at p, by place and number of the index byte
   abbrev Claimed : (ℕ → ℕ → ReferenceValue → Type 0) → ℕ → Type 0
   Claimed P p =
-      listed k (Tag (byte s p)) ≡ true → (i : ℕ) → i < references (shapeOf (byte s p)) → P p i (referenceValue s (reference s (pool k s) (byte s (dataAt s p + i))))
+      listed k (Tag (byte s p)) ≡ true → (i : ℕ) → i < indexCount (shapeOf (byte s p)) → P p i (referenceValue s (reference s (pool k s) (byte s (dataAt s p + i))))
 
   -- what holds of the references of each known item holds of those of each item that is shown
   item-each :
@@ -194,19 +195,20 @@ module _ (k : Kinds) (s : List ℕ) (c : ℕ) (e : judged k s ≡ Accepted c) wh
       (λ p l i h. ap (referenceValue s) (reference-unlisted k s off (byte s (dataAt s p + i)))) (items s))
 
   -- ---- string by number
-  string-accepted : (b : Bool) → listed k (Tag 0x01) ≡ b → (n : ℕ) → stringNumbered k s n ≡ cond b (looked (reference s (pool k s) n)) StringAnswer.Undecodable
+  string-accepted : (b : Bool) → listed k (Tag 0x01) ≡ b → (n : ℕ) → stringNumbered k s n ≡ cond b (asString (reference s (pool k s) n)) StringAnswer.Undecodable
   unfolding stringNumbered
   string-accepted b l n =
-      ap (stringIf k s n) e ∙ ap (λ (t : Bool). cond t (looked (reference s (pool k s) n)) StringAnswer.Undecodable) l
+      ap (stringIf k s n) e ∙ string-by-reference k s n c
+      ∙ ap (λ (t : Bool). cond t (asString (reference s (pool k s) n)) StringAnswer.Undecodable) l
 
   -- with 01 on the list: the n-th text of the pool, or 42 where it has none of that number
   pub string-text : listed k (Tag 0x01) ≡ true → (n : ℕ) → n < length (texts s (pool k s)) → stringSaid s (stringNumbered k s n) ≡ says (text (getD (texts s (pool k s)) n []))
   string-text on n h =
       let r = reference-text s (pool k s) n h in
-      ap (stringSaid s) (string-accepted true on n ∙ ap looked (r .found)) ∙ ap (λ (t : List ℕ). says (text t)) (r .spells)
+      ap (stringSaid s) (string-accepted true on n ∙ ap asString (r .found)) ∙ ap (λ (t : List ℕ). says (text t)) (r .spells)
 
-  pub string-past : listed k (Tag 0x01) ≡ true → (n : ℕ) → length (texts s (pool k s)) ≤ n → stringSaid s (stringNumbered k s n) ≡ refused 42 0
-  string-past on n h = ap (stringSaid s) (string-accepted true on n ∙ ap looked (reference-past s (pool k s) n h))
+  pub string-beyond : listed k (Tag 0x01) ≡ true → (n : ℕ) → length (texts s (pool k s)) ≤ n → stringSaid s (stringNumbered k s n) ≡ refused 42 0
+  string-beyond on n h = ap (stringSaid s) (string-accepted true on n ∙ ap asString (reference-past s (pool k s) n h))
 
   -- with 01 off the list: undecodable
   pub string-unlisted : listed k (Tag 0x01) ≡ false → (n : ℕ) → stringSaid s (stringNumbered k s n) ≡ says undecodable
@@ -222,7 +224,7 @@ module _ (k : Kinds) (s : List ℕ) (c : ℕ) (e : judged k s ≡ Accepted c) wh
           serial-shown k s p (pool k s) (h .0) (h .1),
           subst (λ (q : ℕ). byte s q < length (texts s (pool k s))) (omega arith)
               (h .2 (ap (λ (tag : ℕ). listed k (Tag tag)) (h .1) ∙ h .0) 0
-              (subst (λ (tag : ℕ). 0 < references (shapeOf tag)) (sym (h .1)) (omega arith))),
+              (subst (λ (tag : ℕ). 0 < indexCount (shapeOf tag)) (sym (h .1)) (omega arith))),
         )
 
     -- with 01 on the list and enough room in the buffer, the name is that text: its length, and the text at the front of the buffer

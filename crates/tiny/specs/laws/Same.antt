@@ -21,7 +21,7 @@ use Rattle.kinds.specs.declared.Kinds.{Kinds}
 use Rattle.octets.specs.Bytes.{byte}
 use Rattle.octets.specs.Runs.{sixAt}
 use Rattle.octets.specs.laws.Same.{Same, le16-same, six-same}
-use Rattle.tiny_layout.specs.Layout.{total, last, dataAt, next, items}
+use Rattle.tiny_layout.specs.Layout.{total, checkPlace, dataAt, next, items}
 use Rattle.tiny_layout.specs.Pool.{poolAt, pool}
 use Rattle.tiny_layout.specs.Strings.{strings, spanAt, textOf, referenceAt, reference}
 use Rattle.tiny_layout.specs.Tags.{shapeOf, fieldBytes}
@@ -35,7 +35,7 @@ use Rattle.tiny_layout.specs.laws.Tags.{fields-within}
 use Rattle.tiny_rules.specs.Judged.{judged}
 use Rattle.tiny_rules.specs.laws.Accepted.{items-fit, pool-fits}
 use Rattle.tiny_rules.specs.laws.Same.{judged-same}
-use Rattle.tiny.specs.Answers.{number, numbered, itemIf, itemNumbered, looked, stringIf, stringNumbered, serials, serialOf, copied, nameAt, nameIf, nameOf, isSerial}
+use Rattle.tiny.specs.Answers.{refusedWith, numbered, itemIf, itemNumbered, stringIf, stringNumbered, serials, serialOf, copied, nameAt, nameIf, nameOf, isSerial}
 use Rattle.tiny.specs.Items.{identityAt, batchedAt, poolShown, fieldsAt, itemAt}
 use Rattle.tiny.specs.Major.{majorText}
 use Rattle.tiny.specs.Values.{text, serial, identity, batched, referenceValue, identityValues, fieldValues, itemValues, itemSaid, stringSaid}
@@ -45,6 +45,7 @@ use Rattle.tiny.specs.declared.NameAnswer.{NameAnswer}
 use Rattle.tiny.specs.declared.ShownItem.{ShownItem}
 use Rattle.tiny.specs.declared.StringAnswer.{StringAnswer}
 use Rattle.tiny.specs.laws.Serials.{only-serial, serial-shown}
+use Rattle.tiny.specs.laws.Strings.{asString, string-by-reference}
 use Rattle.verdict.specs.Said.{says}
 use Rattle.verdict.specs.declared.Judged.{Judged}
 use Rattle.verdict.specs.declared.Refusal.{Refusal}
@@ -59,14 +60,14 @@ module _ (s t : List ℕ) where
   value-alike (Reference.Text span) e = ap text e
   value-alike Reference.Undecodable e = refl
 
-  looked-alike : (r : Reference) → Alike r → stringSaid s (looked r) ≡ stringSaid t (looked r)
-  looked-alike (Reference.Text span) e = λ i. says (text (e i))
-  looked-alike Reference.Undecodable e = refl
+  string-alike : (r : Reference) → Alike r → stringSaid s (asString r) ≡ stringSaid t (asString r)
+  string-alike (Reference.Text span) e = λ i. says (text (e i))
+  string-alike Reference.Undecodable e = refl
 
   copied-alike : (buffer : List ℕ) (r : Reference) → Alike r → copied s buffer r ≡ copied t buffer r
   copied-alike buffer (Reference.Text span) e = λ i.
       cond (leb (span .length) (length buffer)) (NameAnswer.Length (span .length), e i ++ drop (span .length) buffer)
-      (NameAnswer.Refused (number 43), buffer)
+      (NameAnswer.Refused (refusedWith 43), buffer)
   copied-alike buffer Reference.Undecodable e = refl
 
 module _ (s t : List ℕ) (long : 4 ≤ total s) (same : Same s t 0 (total s)) where
@@ -87,7 +88,7 @@ module _ (s t : List ℕ) (long : 4 ≤ total s) (same : Same s t 0 (total s)) w
     index-same : (q : ℕ) → q < total s → reference s x (byte s q) ≡ reference t x (byte t q)
     index-same q h = reference-same s t long same x fits (byte s q) ∙ ap (reference t x) (same q (omega arith) h)
 
-    identity-same : (start : ℕ) → start + 6 ≤ last s → identityAt s x start ≡ identityAt t x start
+    identity-same : (start : ℕ) → start + 6 ≤ checkPlace s → identityAt s x start ≡ identityAt t x start
     unfolding identityAt
     identity-same start h i =
         record {
@@ -99,7 +100,7 @@ module _ (s t : List ℕ) (long : 4 ≤ total s) (same : Same s t 0 (total s)) w
               record { first = same (start + 4) (omega arith) (omega arith) i; second = same (start + 5) (omega arith) (omega arith) i };
         }
 
-    batched-same : (start : ℕ) → start + 8 ≤ last s → batchedAt s x start ≡ batchedAt t x start
+    batched-same : (start : ℕ) → start + 8 ≤ checkPlace s → batchedAt s x start ≡ batchedAt t x start
     unfolding batchedAt
     batched-same start h i =
         record {
@@ -107,14 +108,14 @@ module _ (s t : List ℕ) (long : 4 ≤ total s) (same : Same s t 0 (total s)) w
           batch = le16-same s t 0 (total s) same (start + 6) (omega arith) (omega arith) i;
         }
 
-    module _ (p : ℕ) (fit : next s p ≤ last s) where
-      before : p < last s
+    module _ (p : ℕ) (fit : next s p ≤ checkPlace s) where
+      before : p < checkPlace s
       before = omega (arith, fit, next-grows s p)
 
       shown-same : poolShown s (poolAt s (At p)) ≡ poolShown t (poolAt t (At p))
       unfolding poolShown
       shown-same =
-          ap (λ (l : List (List ℕ)). record { strings = length l; bytes = record { place = dataAt s p; length = next s p - dataAt s p } })
+          ap (λ (l : List (List ℕ)). record { count = length l; bytes = record { place = dataAt s p; length = next s p - dataAt s p } })
           (texts-same s t long same (poolAt s (At p)) (omega (arith, fit)))
           ∙ ap₂ (λ (a b : ℕ). poolShown t (record { from = a; to = b })) (data-same s t long same p before) (next-same s t long same p before)
 
@@ -122,7 +123,7 @@ module _ (s t : List ℕ) (long : 4 ≤ total s) (same : Same s t 0 (total s)) w
       moved : {A : Type 0} (f : ℕ → A) → f (dataAt s p) ≡ f (dataAt t p)
       moved f = ap f (data-same s t long same p before)
 
-      fields-same : (a : Shape) → dataAt s p + fieldBytes a ≤ last s → fieldsAt s x a p ≡ fieldsAt t x a p
+      fields-same : (a : Shape) → dataAt s p + fieldBytes a ≤ checkPlace s → fieldsAt s x a p ≡ fieldsAt t x a p
       fields-same Shape.Pool h = ap Item.Pool shown-same
       fields-same Shape.Serial h =
           ap Item.Serial (index-same (dataAt s p) (omega arith))
@@ -162,7 +163,7 @@ module _ (s t : List ℕ) (long : 4 ≤ total s) (same : Same s t 0 (total s)) w
           serial = value-alike s t (reference s x (byte s start)) (reference-alike (byte s start)) i;
           part = value-alike s t (reference s x (byte s (start + 1))) (reference-alike (byte s (start + 1))) i;
           major = byte s (start + 2);
-          shown = majorText (byte s (start + 2));
+          letters = majorText (byte s (start + 2));
           minor = byte s (start + 3);
           characters = record { first = byte s (start + 4); second = byte s (start + 5) };
         }
@@ -197,7 +198,7 @@ module _ (s t : List ℕ) (long : 4 ≤ total s) (same : Same s t 0 (total s)) w
     within : pool k s .to ≤ total s
     within = omega (arith, pool-fits k s c e)
 
-    place-same : (p : ℕ) → next s p ≤ last s → itemAt k s (pool k s) p ≡ itemAt k t (pool k t) p
+    place-same : (p : ℕ) → next s p ≤ checkPlace s → itemAt k s (pool k s) p ≡ itemAt k t (pool k t) p
     place-same p fit =
         at-same (pool k s) within p fit k ∙ ap (λ (x : Pool). itemAt k t x p) (pool-same s t long same k)
 
@@ -205,7 +206,7 @@ module _ (s t : List ℕ) (long : 4 ≤ total s) (same : Same s t 0 (total s)) w
     numbered-same n = go (nth (items s) n) refl ∙ ap (λ (l : List ℕ). numbered k t (nth l n)) (items-same s t long same)
       where
         go : (f : Found) → nth (items s) n ≡ f → numbered k s f ≡ numbered k t f
-        go (At p) d = ap ItemAnswer.Shown (place-same p (nth-all (λ q. (3 ≤ q) × (next s q ≤ last s)) (items s) n p (items-fit k s c e) d .1))
+        go (At p) d = ap ItemAnswer.Shown (place-same p (nth-all (λ q. (3 ≤ q) × (next s q ≤ checkPlace s)) (items s) n p (items-fit k s c e) d .1))
         go Nothing d = refl
 
     numbered-said : (f : Found) → itemSaid s (numbered k s f) ≡ itemSaid t (numbered k s f)
@@ -219,7 +220,7 @@ module _ (s t : List ℕ) (long : 4 ≤ total s) (same : Same s t 0 (total s)) w
     serials-same : serials k s ≡ serials k t
     serials-same =
         keep-agree (isSerial k s) (isSerial k t) (items s)
-        (all-map (λ p. (3 ≤ p) × (p < last s)) (λ p. isSerial k s p ≡ isSerial k t p)
+        (all-map (λ p. (3 ≤ p) × (p < checkPlace s)) (λ p. isSerial k s p ≡ isSerial k t p)
         (λ p w. ap (λ (tag : ℕ). listed k (Tag 0x10) && eqb tag 0x10) (tag-same s t long same p (w .1))) (items s) (items-within s))
         ∙ ap (keep (isSerial k t)) (items-same s t long same)
 
@@ -228,7 +229,7 @@ module _ (s t : List ℕ) (long : 4 ≤ total s) (same : Same s t 0 (total s)) w
       where
         go : (f : Found) → only (serials k s) ≡ f → nameAt k s buffer f ≡ nameAt k t buffer f
         go (At p) d =
-            let h = only-serial k s p (λ q. (3 ≤ q) × (next s q ≤ last s)) (items-fit k s c e) d in
+            let h = only-serial k s p (λ q. (3 ≤ q) × (next s q ≤ checkPlace s)) (items-fit k s c e) d in
             copied-alike s t buffer (serialOf (itemAt k s (pool k s) p .item))
             (subst (Alike s t) (sym (serial-shown k s p (pool k s) (h .0) (h .1))) (reference-alike (pool k s) within (byte s (dataAt s p))))
             ∙ ap (λ (y : ShownItem). copied t buffer (serialOf (y .item))) (place-same p (h .2 .1))
@@ -263,20 +264,25 @@ module _ (s t : List ℕ) (long : 4 ≤ total s) (same : Same s t 0 (total s)) w
     unfolding stringNumbered
     string-answer-same n =
         verdict-same (stringIf k s n) (stringIf k t n)
-        (λ c e. ap (λ (r : Reference). cond (listed k (Tag 0x01)) (looked r) StringAnswer.Undecodable) (pool-reference k c e n)) (λ r. refl)
+        (λ c e.
+        string-by-reference k s n c
+        ∙ ap (λ (r : Reference). cond (listed k (Tag 0x01)) (asString r) StringAnswer.Undecodable) (pool-reference k c e n)
+        ∙ sym (string-by-reference k t n c))
+        (λ r. refl)
 
     pub string-same : (n : ℕ) → stringSaid s (stringNumbered k s n) ≡ stringSaid t (stringNumbered k t n)
     unfolding stringNumbered
     string-same n =
         verdict-same (λ j. stringSaid s (stringIf k s n j)) (λ j. stringSaid t (stringIf k t n j))
         (λ c e.
-        go c e (listed k (Tag 0x01))
-        ∙ ap (λ (r : Reference). stringSaid t (cond (listed k (Tag 0x01)) (looked r) StringAnswer.Undecodable)) (pool-reference k c e n))
+        ap (stringSaid s) (string-by-reference k s n c) ∙ go c e (listed k (Tag 0x01))
+        ∙ ap (λ (r : Reference). stringSaid t (cond (listed k (Tag 0x01)) (asString r) StringAnswer.Undecodable)) (pool-reference k c e n)
+        ∙ ap (stringSaid t) (sym (string-by-reference k t n c)))
         (λ r. refl)
       where
         go : (c : ℕ) → judged k s ≡ Judged.Accepted c → (b : Bool)
-            → stringSaid s (cond b (looked (reference s (pool k s) n)) StringAnswer.Undecodable) ≡ stringSaid t (cond b (looked (reference s (pool k s) n)) StringAnswer.Undecodable)
-        go c e true = looked-alike s t (reference s (pool k s) n) (reference-alike (pool k s) (within k c e) n)
+            → stringSaid s (cond b (asString (reference s (pool k s) n)) StringAnswer.Undecodable) ≡ stringSaid t (cond b (asString (reference s (pool k s) n)) StringAnswer.Undecodable)
+        go c e true = string-alike s t (reference s (pool k s) n) (reference-alike (pool k s) (within k c e) n)
         go c e false = refl
 
     -- the name, and what the lent buffer then holds

@@ -14,7 +14,7 @@ use Rattle.kinds.specs.Kinds.{listed}
 use Rattle.kinds.specs.declared.Kind.the-variants.{Tag}
 use Rattle.kinds.specs.declared.Kinds.{Kinds}
 use Rattle.octets.specs.Bytes.{byte}
-use Rattle.tiny_layout.specs.Layout.{last, dataAt, items}
+use Rattle.tiny_layout.specs.Layout.{checkPlace, dataAt, items}
 use Rattle.tiny_layout.specs.Strings.{reference}
 use Rattle.tiny_layout.specs.Tags.{shapeOf}
 use Rattle.tiny_layout.specs.declared.Pool.{Pool}
@@ -37,7 +37,7 @@ module _ (k : Kinds) (s : List ℕ) (p : ℕ) where
   -- so it lies between the header and the check byte, its tag on the list
   pub serial-known : only (serials k s) ≡ At p → Known k s 0x10 p
   serial-known one =
-      let h = only-serial (λ q. (3 ≤ q) × (q < last s)) (items-within s) one in
+      let h = only-serial (λ q. (3 ≤ q) × (q < checkPlace s)) (items-within s) one in
       record { from = h .2 .0; to = h .2 .1; mark = h .0; own = h .1 }
 
   -- it shows the string whose number its data byte holds

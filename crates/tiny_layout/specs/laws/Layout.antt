@@ -10,7 +10,7 @@ use Rattle.chain.specs.declared.Found.the-variants.{At}
 use Rattle.chain.specs.laws.Nth.{nth-all}
 use Rattle.chain.specs.laws.Places.{chain-within}
 use Rattle.octets.specs.Bytes.{byte, Octets}
-use Rattle.tiny_layout.specs.Layout.{isLong, headSize, dataLength, dataAt, last, next, items}
+use Rattle.tiny_layout.specs.Layout.{isLong, headSize, dataLength, dataAt, checkPlace, next, items}
 
 head-within : (b : Bool) → (1 ≤ cond b 2 1) × (cond b 2 1 ≤ 2)
 head-within true = (omega arith, omega arith)
@@ -44,8 +44,8 @@ length-bound s p octets = go (isLong (byte s p))
     go false = omega (arith, octets p)
 
 -- each item starts past the header and before the check byte
-pub items-within : (s : List ℕ) → All (λ p. (3 ≤ p) × (p < last s)) (items s)
-items-within s = chain-within (next s) (last s) (next-grows s) 3
+pub items-within : (s : List ℕ) → All (λ p. (3 ≤ p) × (p < checkPlace s)) (items s)
+items-within s = chain-within (next s) (checkPlace s) (next-grows s) 3
 
-pub item-within : (s : List ℕ) (n p : ℕ) → nth (items s) n ≡ At p → (3 ≤ p) × (p < last s)
-item-within s n p e = nth-all (λ q. (3 ≤ q) × (q < last s)) (items s) n p (items-within s) e
+pub item-within : (s : List ℕ) (n p : ℕ) → nth (items s) n ≡ At p → (3 ≤ p) × (p < checkPlace s)
+item-within s n p e = nth-all (λ q. (3 ≤ q) × (q < checkPlace s)) (items s) n p (items-within s) e

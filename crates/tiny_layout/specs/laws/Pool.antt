@@ -1,7 +1,7 @@
 -- The pool that a reader uses: the data of a listed item of tag 01 between the header and the check byte, or empty at place 0. `pool-view` turns a
 -- claim about the pool into these two cases. Of the list only the mark of 01 matters. Assumes nothing.
 use Prim.Native.Nat.{ℕ, _≤_, _<_}
-use mathlib.Core.Bool.{Bool, true, false, _&&_, false≢true}
+use mathlib.Core.Bool.{Bool, true, false, _&&_, and-eq-true-iff}
 use mathlib.Core.List.{List}
 use mathlib.Core.Path.{_≡_, refl, ap, subst, _∙_}
 use native.Mathlib.Omega.{arith}
@@ -16,56 +16,51 @@ use Rattle.kinds.specs.Kinds.{listed}
 use Rattle.kinds.specs.declared.Kind.the-variants.{Tag}
 use Rattle.kinds.specs.declared.Kinds.{Kinds}
 use Rattle.octets.specs.Bytes.{byte, Octets}
-use Rattle.tiny_layout.specs.Layout.{last, dataAt, next, items}
-use Rattle.tiny_layout.specs.Pool.{isKnown, poolAt, pool}
+use Rattle.tiny_layout.specs.Layout.{checkPlace, dataAt, next, items}
+use Rattle.tiny_layout.specs.Pool.{knownOf, poolAt, pool}
 use Rattle.tiny_layout.specs.declared.Pool.{Pool}
 use Rattle.tiny_layout.specs.laws.Layout.{head-bounds, data-within, length-bound, items-within}
-
--- what a test of two parts tells
-both : (a b : Bool) → (a && b) ≡ true → (a ≡ true) × (b ≡ true)
-both true b e = (refl, e)
-both false b e = absurd (false≢true e)
 
 -- a known item of this tag starts at p: between the header and the check byte, its tag on the list
 pub record Known (k : Kinds) (s : List ℕ) (tag p : ℕ) : Type 0 where
   pub from : 3 ≤ p
-  pub to : p < last s
+  pub to : p < checkPlace s
   pub mark : listed k (Tag tag) ≡ true
   pub own : byte s p ≡ tag
 
 -- what a search for a known item finds is one
-pub known-found : (k : Kinds) (s : List ℕ) (tag p : ℕ) → first (isKnown k s tag) (items s) ≡ At p → Known k s tag p
+pub known-found : (k : Kinds) (s : List ℕ) (tag p : ℕ) → first (knownOf k s tag) (items s) ≡ At p → Known k s tag p
 known-found k s tag p e =
-    let h : Hit (isKnown k s tag) (items s) p = first-hit (isKnown k s tag) (items s) p e in
+    let h : Hit (knownOf k s tag) (items s) p = first-hit (knownOf k s tag) (items s) p e in
     let q = h .item in
     let test : Bool = listed k (Tag tag) && eqb (byte s q) tag in
-    let t = both (listed k (Tag tag)) (eqb (byte s q) tag) (when-test test q p (h .breaks)) in
-    let w : (3 ≤ q) × (q < last s) = hit-holds (isKnown k s tag) (λ x. (3 ≤ x) × (x < last s)) (items s) p (items-within s) h in
+    let t = and-eq-true-iff (listed k (Tag tag)) (eqb (byte s q) tag) .0 (when-test test q p (h .breaks)) in
+    let w : (3 ≤ q) × (q < checkPlace s) = hit-holds (knownOf k s tag) (λ x. (3 ≤ x) × (x < checkPlace s)) (items s) p (items-within s) h in
     subst (Known k s tag) (when-place test q p (h .breaks))
     (record { from = w .0; to = w .1; mark = t .0; own = eqb-true (byte s q) tag (t .1) })
 
 -- a claim about the pool, shown of the empty one and of the data of a listed pool item, holds
 pub pool-view :
     (k : Kinds) (s : List ℕ) (P : Pool → Type 0) → P (record { from = 0; to = 0 })
-    → ((p : ℕ) → first (isKnown k s 0x01) (items s) ≡ At p → 3 ≤ p → p < last s → listed k (Tag 0x01) ≡ true → byte s p ≡ 1 → P (record { from = dataAt s p; to = next s p }))
+    → ((p : ℕ) → first (knownOf k s 0x01) (items s) ≡ At p → 3 ≤ p → p < checkPlace s → listed k (Tag 0x01) ≡ true → byte s p ≡ 1 → P (record { from = dataAt s p; to = next s p }))
     → P (pool k s)
 unfolding pool
-pool-view k s P none some = go (first (isKnown k s 0x01) (items s)) refl
+pool-view k s P none some = go (first (knownOf k s 0x01) (items s)) refl
   where
-    go : (f : Found) → first (isKnown k s 0x01) (items s) ≡ f → P (poolAt s f)
+    go : (f : Found) → first (knownOf k s 0x01) (items s) ≡ f → P (poolAt s f)
     go (At p) e = let i = known-found k s 0x01 p e in some p e (i .from) (i .to) (i .mark) (i .own)
     go Nothing e = none
 
 -- the pool by the mark of 01 on the list
-abbrev marked : List ℕ → Bool → Pool
-marked s b = poolAt s (first (λ p. when (b && eqb (byte s p) 0x01) p) (items s))
+abbrev pub poolBy : List ℕ → Bool → Pool
+poolBy s b = poolAt s (first (λ p. when (b && eqb (byte s p) 0x01) p) (items s))
 
 module _ (k : Kinds) (s : List ℕ) where
   -- without 01 on the list there is none
   pub no-pool : listed k (Tag 0x01) ≡ false → pool k s ≡ record { from = 0; to = 0 }
   unfolding pool
   no-pool e =
-      ap (marked s) e
+      ap (poolBy s) e
       ∙ ap (poolAt s) (first-none (λ p. Nothing) (items s) (all-of (λ p. Nothing ≡ Nothing) (λ p. refl) (items s)))
 
   -- it ends at its start or further on
@@ -84,4 +79,4 @@ module _ (k : Kinds) (s : List ℕ) where
 -- two lists that agree on 01 have one pool
 pub pool-lists : (k m : Kinds) (s : List ℕ) → listed k (Tag 0x01) ≡ listed m (Tag 0x01) → pool k s ≡ pool m s
 unfolding pool
-pool-lists k m s e = ap (marked s) e
+pool-lists k m s e = ap (poolBy s) e

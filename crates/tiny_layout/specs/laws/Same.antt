@@ -21,8 +21,8 @@ use Rattle.kinds.specs.declared.Kinds.{Kinds}
 use Rattle.octets.specs.Bytes.{byte}
 use Rattle.octets.specs.declared.Span.{Span}
 use Rattle.octets.specs.laws.Same.{Same}
-use Rattle.tiny_layout.specs.Layout.{total, last, isLong, headSize, dataLength, dataAt, next, items}
-use Rattle.tiny_layout.specs.Pool.{isKnown, poolAt, pool}
+use Rattle.tiny_layout.specs.Layout.{total, checkPlace, isLong, headSize, dataLength, dataAt, next, items}
+use Rattle.tiny_layout.specs.Pool.{knownOf, poolAt, pool}
 use Rattle.tiny_layout.specs.Strings.{isMarked, letter, mark, split, texts, pastMark, stringEnd, strings, textOf, referenceAt, reference}
 use Rattle.tiny_layout.specs.declared.Pool.{Pool}
 use Rattle.tiny_layout.specs.declared.Reference.the-variants.{Text}
@@ -34,11 +34,11 @@ module _ (s t : List ℕ) (long : 4 ≤ total s) (same : Same s t 0 (total s)) w
   pub total-same : total s ≡ total t
   total-same = same 2 (omega arith) (omega arith)
 
-  pub last-same : last s ≡ last t
-  last-same = ap (λ (n : ℕ). n - 1) total-same
+  pub check-same : checkPlace s ≡ checkPlace t
+  check-same = ap (λ (n : ℕ). n - 1) total-same
 
   -- ---- at a place before the check byte
-  module _ (p : ℕ) (before : p < last s) where
+  module _ (p : ℕ) (before : p < checkPlace s) where
     -- the tag
     pub tag-same : byte s p ≡ byte t p
     tag-same = same p (omega arith) (omega arith)
@@ -64,23 +64,23 @@ module _ (s t : List ℕ) (long : 4 ≤ total s) (same : Same s t 0 (total s)) w
   -- the same places of items
   pub items-same : items s ≡ items t
   items-same =
-      chain-agree (next s) (next t) (last s) (next-grows s) (next-grows t) 3
-      (chain-all (next s) (last s) (next-grows s) (λ p. next s p ≡ next t p) 3 (λ p _ h. next-same p h))
-      ∙ ap (λ (end : ℕ). chain (next t) end 3) last-same
+      chain-agree (next s) (next t) (checkPlace s) (next-grows s) (next-grows t) 3
+      (chain-all (next s) (checkPlace s) (next-grows s) (λ p. next s p ≡ next t p) 3 (λ p _ h. next-same p h))
+      ∙ ap (λ (end : ℕ). chain (next t) end 3) check-same
 
   -- the same first known item of a tag
-  known-same : (k : Kinds) (tag : ℕ) → first (isKnown k s tag) (items s) ≡ first (isKnown k t tag) (items t)
+  known-same : (k : Kinds) (tag : ℕ) → first (knownOf k s tag) (items s) ≡ first (knownOf k t tag) (items t)
   known-same k tag =
-      search-agree (isKnown k s tag) (isKnown k t tag) (next s) (last s) (next-grows s) 3
+      search-agree (knownOf k s tag) (knownOf k t tag) (next s) (checkPlace s) (next-grows s) 3
       (λ p _ h. ap (λ (b : ℕ). when (listed k (Tag tag) && eqb b tag) p) (tag-same p h))
-      ∙ ap (first (isKnown k t tag)) items-same
+      ∙ ap (first (knownOf k t tag)) items-same
 
   -- each list has the same pool
   pub pool-same : (k : Kinds) → pool k s ≡ pool k t
   unfolding pool
-  pool-same k = go (first (isKnown k s 0x01) (items s)) refl ∙ ap (poolAt t) (known-same k 0x01)
+  pool-same k = go (first (knownOf k s 0x01) (items s)) refl ∙ ap (poolAt t) (known-same k 0x01)
     where
-      go : (f : Found) → first (isKnown k s 0x01) (items s) ≡ f → poolAt s f ≡ poolAt t f
+      go : (f : Found) → first (knownOf k s 0x01) (items s) ≡ f → poolAt s f ≡ poolAt t f
       go (At p) e =
           let i : Known k s 0x01 p = known-found k s 0x01 p e in
           ap₂ (λ (a b : ℕ). record { from = a; to = b }) (data-same p (i .to)) (next-same p (i .to))

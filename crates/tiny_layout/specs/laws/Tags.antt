@@ -1,15 +1,17 @@
 -- What holds of a tag and its row, shown at each row of the table: one law for all that is said by tag. From it, the fields of an item lie within its
 -- data. Assumes nothing.
-use Prim.Native.Nat.{ℕ, _+_, _/_, _≤_}
+use Prim.Native.Nat.{ℕ, _+_, _/_, _≤_, _<_}
 use mathlib.Core.Bool.{Bool, true, false, cond}
 use mathlib.Core.List.{List}
+use mathlib.Core.Logic.{inl, inr}
 use mathlib.Core.Path.{_≡_, refl, sym, subst}
 use native.Mathlib.Omega.{arith}
 use lib.Dec.{eqb, lit≤}
 use borrow.Author.Tests.{eqb-true}
+use Rattle.chain.specs.laws.Below.{below}
 use Rattle.octets.specs.Bytes.{byte}
 use Rattle.tiny_layout.specs.Layout.{isLong, dataLength, dataAt, next}
-use Rattle.tiny_layout.specs.Tags.{shapeOf, references, fieldBytes}
+use Rattle.tiny_layout.specs.Tags.{shapeOf, indexCount, fieldBytes}
 use Rattle.tiny_layout.specs.declared.Shape.{Shape}
 use Rattle.tiny_layout.specs.declared.Shape.the-variants.{Pool, Serial, Flags, Address, Identity, Batched, Other}
 
@@ -36,10 +38,15 @@ shape-view P a b c d e f g h other tag =
     (row P tag 0x80 Batched _ g
     (row P tag 0x81 Batched Other h (other tag))))))))
 
--- a row's fields take no more bytes than its tag's high four bits say
+-- a row's fields take as many bytes as its tag's high four bits say: "its tables of sizes decide". (The pool has no fields.)
+pub fields-exact : (tag : ℕ) → 0 < fieldBytes (shapeOf tag) → fieldBytes (shapeOf tag) ≡ tag / 16
+fields-exact =
+    shape-view (λ tag a. 0 < fieldBytes a → fieldBytes a ≡ tag / 16) (λ h. absurd (omega arith)) (λ h. refl) (λ h. refl) (λ h. refl) (λ h. refl) (λ h. refl) (λ h. refl)
+    (λ h. refl) (λ tag h. absurd (omega arith))
+
 fields-short : (tag : ℕ) → fieldBytes (shapeOf tag) ≤ tag / 16
-fields-short =
-    shape-view (λ tag a. fieldBytes a ≤ tag / 16) (lit≤ tt) (lit≤ tt) (lit≤ tt) (lit≤ tt) (lit≤ tt) (lit≤ tt) (lit≤ tt) (lit≤ tt) (λ tag. omega arith)
+fields-short tag =
+    elim (below 0 (fieldBytes (shapeOf tag))) [ inl h ↦ omega (arith, fields-exact tag h) | inr h ↦ omega arith ]
 
 -- the fields of an item lie within it
 pub fields-within : (s : List ℕ) (p : ℕ) → dataAt s p + fieldBytes (shapeOf (byte s p)) ≤ next s p
@@ -51,11 +58,11 @@ fields-within s p = omega (arith, go (isLong (byte s p)) refl)
     go false e = fields-short (byte s p)
 
 -- the string indexes of a row are among its fields
-pub references-within : (a : Shape) → references a ≤ fieldBytes a
-references-within Pool = lit≤ tt
-references-within Serial = lit≤ tt
-references-within Flags = lit≤ tt
-references-within Address = lit≤ tt
-references-within Identity = lit≤ tt
-references-within Batched = lit≤ tt
-references-within Other = lit≤ tt
+pub indexes-within : (a : Shape) → indexCount a ≤ fieldBytes a
+indexes-within Pool = lit≤ tt
+indexes-within Serial = lit≤ tt
+indexes-within Flags = lit≤ tt
+indexes-within Address = lit≤ tt
+indexes-within Identity = lit≤ tt
+indexes-within Batched = lit≤ tt
+indexes-within Other = lit≤ tt

@@ -21,10 +21,10 @@ use Rattle.kinds.specs.declared.Kind.the-variants.{Tag}
 use Rattle.kinds.specs.declared.Kinds.{Kinds}
 use Rattle.octets.specs.Bytes.{byte}
 use Rattle.octets.specs.Label.{isText}
-use Rattle.tiny_layout.specs.Layout.{total, last, dataAt, next, items}
-use Rattle.tiny_layout.specs.Pool.{isKnown, poolAt, pool}
+use Rattle.tiny_layout.specs.Layout.{total, checkPlace, dataAt, next, items}
+use Rattle.tiny_layout.specs.Pool.{knownOf, poolAt, pool}
 use Rattle.tiny_layout.specs.Strings.{isMarked, letter, texts}
-use Rattle.tiny_layout.specs.Tags.{shapeOf, references}
+use Rattle.tiny_layout.specs.Tags.{shapeOf, indexCount}
 use Rattle.tiny_layout.specs.declared.Shape.{Shape}
 use Rattle.tiny_layout.specs.laws.Layout.{items-within}
 use Rattle.tiny_rules.specs.Judged.{rules, judged}
@@ -45,29 +45,29 @@ known-clear k s rule e =
     (first-all (onKnown k s rule) (items s) e)
 
 -- rule 6 is not broken: each item ends at the check byte or before it
-pub unpassed-fit : (s : List ℕ) → rule6 s ≡ Nothing → All (λ p. (3 ≤ p) × (next s p ≤ last s)) (items s)
+pub unpassed-fit : (s : List ℕ) → rule6 s ≡ Nothing → All (λ p. (3 ≤ p) × (next s p ≤ checkPlace s)) (items s)
 unfolding rule6
 unpassed-fit s e =
-    all-both (λ p. (3 ≤ p) × (p < last s)) (λ p. passes s p ≡ Nothing) (λ p. (3 ≤ p) × (next s p ≤ last s))
+    all-both (λ p. (3 ≤ p) × (p < checkPlace s)) (λ p. passes s p ≡ Nothing) (λ p. (3 ≤ p) × (next s p ≤ checkPlace s))
     (λ p w c. (
       w .0,
-      ltb-false (last s) (next s p)
-          (neither (ltb (last s) (dataAt s p)) (ltb (last s) (next s p))
-          (when-nothing (ltb (last s) (dataAt s p) || ltb (last s) (next s p)) p c) .1),
+      ltb-false (checkPlace s) (next s p)
+          (neither (ltb (checkPlace s) (dataAt s p)) (ltb (checkPlace s) (next s p))
+          (when-nothing (ltb (checkPlace s) (dataAt s p) || ltb (checkPlace s) (next s p)) p c) .1),
     ))
     (items s) (items-within s) (first-all (passes s) (items s) e)
 
 -- and so does the pool that is used
-pub unpassed-pool : (k : Kinds) (s : List ℕ) → rule6 s ≡ Nothing → pool k s .to ≤ last s
+pub unpassed-pool : (k : Kinds) (s : List ℕ) → rule6 s ≡ Nothing → pool k s .to ≤ checkPlace s
 unfolding pool
-unpassed-pool k s e = go (first (isKnown k s 0x01) (items s)) refl
+unpassed-pool k s e = go (first (knownOf k s 0x01) (items s)) refl
   where
-    go : (f : Found) → first (isKnown k s 0x01) (items s) ≡ f → poolAt s f .to ≤ last s
+    go : (f : Found) → first (knownOf k s 0x01) (items s) ≡ f → poolAt s f .to ≤ checkPlace s
     go (At p) d =
-        let h : Hit (isKnown k s 0x01) (items s) p = first-hit (isKnown k s 0x01) (items s) p d in
-        subst (λ (q : ℕ). next s q ≤ last s)
+        let h : Hit (knownOf k s 0x01) (items s) p = first-hit (knownOf k s 0x01) (items s) p d in
+        subst (λ (q : ℕ). next s q ≤ checkPlace s)
         (when-place (listed k (Tag 0x01) && eqb (byte s (h .item)) 0x01) (h .item) p (h .breaks))
-        (hit-holds (isKnown k s 0x01) (λ q. (3 ≤ q) × (next s q ≤ last s)) (items s) p (unpassed-fit s e) h .1)
+        (hit-holds (knownOf k s 0x01) (λ q. (3 ≤ q) × (next s q ≤ checkPlace s)) (items s) p (unpassed-fit s e) h .1)
     go Nothing d = omega arith
 
 -- an image that breaks no rule is accepted, with the count of its items
@@ -101,12 +101,12 @@ module _ (k : Kinds) (s : List ℕ) (n : ℕ) (e : judged k s ≡ Accepted n) wh
       (ltb-false (total s) 4 (t .0), ltb-false (length s) (total s) (t .1))
 
   -- rule 5: the check byte
-  pub check-holds : byte s (last s) ≡ crc8 (take (last s) s)
+  pub check-holds : byte s (checkPlace s) ≡ crc8 (take (checkPlace s) s)
   unfolding rule5
-  check-holds = kept-equal (byte s (last s)) (crc8 (take (last s) s)) (last s) (accepted-clear .1 .1 .1 .1 .0)
+  check-holds = kept-equal (byte s (checkPlace s)) (crc8 (take (checkPlace s) s)) (checkPlace s) (accepted-clear .1 .1 .1 .1 .0)
 
   -- rule 6: each item ends at the check byte or before it
-  pub items-fit : All (λ p. (3 ≤ p) × (next s p ≤ last s)) (items s)
+  pub items-fit : All (λ p. (3 ≤ p) × (next s p ≤ checkPlace s)) (items s)
   items-fit = unpassed-fit s (accepted-clear .1 .1 .1 .1 .1 .0)
 
   -- rule 7: no item has the tag 00
@@ -118,24 +118,24 @@ module _ (k : Kinds) (s : List ℕ) (n : ℕ) (e : judged k s ≡ Accepted n) wh
       (first-all (reserved s) (items s) (accepted-clear .1 .1 .1 .1 .1 .1 .0))
 
   -- rule 8: a listed pool ends where the items end
-  pub pool-last : All (λ p. listed k (Tag 0x01) ≡ true → byte s p ≡ 0x01 → next s p ≡ last s) (items s)
+  pub pool-last : All (λ p. listed k (Tag 0x01) ≡ true → byte s p ≡ 0x01 → next s p ≡ checkPlace s) (items s)
   unfolding rule8
   pool-last =
-      all-both (λ p. (3 ≤ p) × (next s p ≤ last s)) (λ p. early k s p ≡ Nothing)
-      (λ p. listed k (Tag 0x01) ≡ true → byte s p ≡ 0x01 → next s p ≡ last s)
+      all-both (λ p. (3 ≤ p) × (next s p ≤ checkPlace s)) (λ p. early k s p ≡ Nothing)
+      (λ p. listed k (Tag 0x01) ≡ true → byte s p ≡ 0x01 → next s p ≡ checkPlace s)
       (λ p w c h t.
       omega (
         arith,
         w .1,
-        ltb-false (next s p) (last s)
-            (second-fails (listed k (Tag 0x01) && eqb (byte s p) 0x01) (ltb (next s p) (last s))
-            (when-nothing (listed k (Tag 0x01) && eqb (byte s p) 0x01 && ltb (next s p) (last s)) p c)
+        ltb-false (next s p) (checkPlace s)
+            (second-fails (listed k (Tag 0x01) && eqb (byte s p) 0x01) (ltb (next s p) (checkPlace s))
+            (when-nothing (listed k (Tag 0x01) && eqb (byte s p) 0x01 && ltb (next s p) (checkPlace s)) p c)
             (and-eq-true-iff (listed k (Tag 0x01)) (eqb (byte s p) 0x01) .1 (h, eq-eqb (byte s p) 0x01 t))),
       ))
       (items s) items-fit (first-all (early k s) (items s) (accepted-clear .1 .1 .1 .1 .1 .1 .1 .0))
 
   -- the pool that is used lies before the check byte
-  pub pool-fits : pool k s .to ≤ last s
+  pub pool-fits : pool k s .to ≤ checkPlace s
   pool-fits = unpassed-pool k s (accepted-clear .1 .1 .1 .1 .1 .0)
 
   -- rule 9 at each byte of the pool
@@ -158,15 +158,15 @@ module _ (k : Kinds) (s : List ℕ) (n : ℕ) (e : judged k s ≡ Accepted n) wh
       (second-fails (eqb (p + 1) (pool k s .to)) (not (isMarked (byte s p))) (pool-byte p h (omega arith) .1) (eq-eqb (p + 1) (pool k s .to) l))
 
   -- rule 10: where 01 is listed, each index of a known item is below the string count
-  pub indexes-resolve : listed k (Tag 0x01) ≡ true → All (λ p. listed k (Tag (byte s p)) ≡ true → (i : ℕ) → i < references (shapeOf (byte s p)) → byte s (dataAt s p + i) < length (texts s (pool k s))) (items s)
+  pub indexes-resolve : listed k (Tag 0x01) ≡ true → All (λ p. listed k (Tag (byte s p)) ≡ true → (i : ℕ) → i < indexCount (shapeOf (byte s p)) → byte s (dataAt s p + i) < length (texts s (pool k s))) (items s)
   unfolding rule10 badIndex
   indexes-resolve t =
       let count : ℕ = length (texts s (pool k s)) in
       all-map (λ p. listed k (Tag (byte s p)) ≡ true → badIndex s count (shapeOf (byte s p)) (dataAt s p) ≡ Nothing)
-      (λ p. listed k (Tag (byte s p)) ≡ true → (i : ℕ) → i < references (shapeOf (byte s p)) → byte s (dataAt s p + i) < count)
+      (λ p. listed k (Tag (byte s p)) ≡ true → (i : ℕ) → i < indexCount (shapeOf (byte s p)) → byte s (dataAt s p + i) < count)
       (λ p c h i l.
       leb-false count (byte s (dataAt s p + i))
-      (range-none (λ q. leb count (byte s q)) (λ q. q) (dataAt s p + references (shapeOf (byte s p))) (dataAt s p) (c h) (dataAt s p + i) (omega arith) (omega arith)))
+      (range-none (λ q. leb count (byte s q)) (λ q. q) (dataAt s p + indexCount (shapeOf (byte s p))) (dataAt s p) (c h) (dataAt s p + i) (omega arith) (omega arith)))
       (items s)
       (known-clear k s (badIndex s count)
       (under-mark (listed k (Tag 0x01)) (first (onKnown k s (badIndex s count)) (items s)) (accepted-clear .1 .1 .1 .1 .1 .1 .1 .1 .1 .0) t))

@@ -25,15 +25,15 @@ use Rattle.kinds.specs.declared.Kinds.{Kinds}
 use Rattle.octets.specs.Bytes.{byte}
 use Rattle.octets.specs.Label.{isText}
 use Rattle.octets.specs.laws.Same.{Same, same-part, le16-same, take-same}
-use Rattle.tiny_layout.specs.Layout.{total, last, dataAt, next, items}
+use Rattle.tiny_layout.specs.Layout.{total, checkPlace, dataAt, next, items}
 use Rattle.tiny_layout.specs.Pool.{pool}
 use Rattle.tiny_layout.specs.Strings.{isMarked, letter, texts}
-use Rattle.tiny_layout.specs.Tags.{shapeOf, references, fieldBytes}
+use Rattle.tiny_layout.specs.Tags.{shapeOf, indexCount, fieldBytes}
 use Rattle.tiny_layout.specs.declared.Pool.{Pool}
 use Rattle.tiny_layout.specs.declared.Shape.{Shape}
 use Rattle.tiny_layout.specs.laws.Layout.{next-grows, items-within}
-use Rattle.tiny_layout.specs.laws.Same.{total-same, last-same, tag-same, data-same, next-same, items-same, pool-same, texts-same}
-use Rattle.tiny_layout.specs.laws.Tags.{fields-within, references-within}
+use Rattle.tiny_layout.specs.laws.Same.{total-same, check-same, tag-same, data-same, next-same, items-same, pool-same, texts-same}
+use Rattle.tiny_layout.specs.laws.Tags.{fields-within, indexes-within}
 use Rattle.tiny_rules.specs.Judged.{rules, judged}
 use Rattle.tiny_rules.specs.Rules.{rule1, rule2, rule3, rule4, rule5, passes, rule6, reserved, rule7, early, rule8, unfit, rule9, onKnown, beyond, badIndex, rule10, isMajor, isMinor, isBatch, badRevision, badBatch, badField, rule11}
 use Rattle.tiny_rules.specs.laws.Accepted.{unpassed-fit, unpassed-pool}
@@ -50,23 +50,23 @@ module _ (s t : List ℕ) (long : 4 ≤ total s) (same : Same s t 0 (total s)) w
   rule6-same : rule6 s ≡ rule6 t
   unfolding rule6
   rule6-same =
-      along-same (λ p. (3 ≤ p) × (p < last s)) (items-within s) (passes s) (passes t)
+      along-same (λ p. (3 ≤ p) × (p < checkPlace s)) (items-within s) (passes s) (passes t)
       (λ p w i.
-      let end = last-same s t long same i in
+      let end = check-same s t long same i in
       when (ltb end (data-same s t long same p (w .1) i) || ltb end (next-same s t long same p (w .1) i)) p)
 
   rule7-same : rule7 s ≡ rule7 t
   unfolding rule7
   rule7-same =
-      along-same (λ p. (3 ≤ p) × (p < last s)) (items-within s) (reserved s) (reserved t)
+      along-same (λ p. (3 ≤ p) × (p < checkPlace s)) (items-within s) (reserved s) (reserved t)
       (λ p w i. when (eqb (tag-same s t long same p (w .1) i) 0x00) p)
 
   rule8-same : (k : Kinds) → rule8 k s ≡ rule8 k t
   unfolding rule8
   rule8-same k =
-      along-same (λ p. (3 ≤ p) × (p < last s)) (items-within s) (early k s) (early k t)
+      along-same (λ p. (3 ≤ p) × (p < checkPlace s)) (items-within s) (early k s) (early k t)
       (λ p w i.
-      when (listed k (Tag 0x01) && eqb (tag-same s t long same p (w .1) i) 0x01 && ltb (next-same s t long same p (w .1) i) (last-same s t long same i)) p)
+      when (listed k (Tag 0x01) && eqb (tag-same s t long same p (w .1) i) 0x01 && ltb (next-same s t long same p (w .1) i) (check-same s t long same i)) p)
 
   -- ---- the rules on data, where rule 6 is not broken
   module _ (fit : rule6 s ≡ Nothing) (k : Kinds) where
@@ -82,12 +82,12 @@ module _ (s t : List ℕ) (long : 4 ≤ total s) (same : Same s t 0 (total s)) w
 
     -- a rule on the known items: two rules that agree on data before the check byte
     known-same :
-        (f g : Shape → ℕ → Found) → ((a : Shape) (start : ℕ) → start + fieldBytes a ≤ last s → f a start ≡ g a start)
+        (f g : Shape → ℕ → Found) → ((a : Shape) (start : ℕ) → start + fieldBytes a ≤ checkPlace s → f a start ≡ g a start)
         → first (onKnown k s f) (items s) ≡ first (onKnown k t g) (items t)
     known-same f g agree =
-        along-same (λ p. (3 ≤ p) × (next s p ≤ last s)) (unpassed-fit s fit) (onKnown k s f) (onKnown k t g)
+        along-same (λ p. (3 ≤ p) × (next s p ≤ checkPlace s)) (unpassed-fit s fit) (onKnown k s f) (onKnown k t g)
         (λ p w.
-        let h : p < last s = omega (arith, w .1, next-grows s p) in
+        let h : p < checkPlace s = omega (arith, w .1, next-grows s p) in
         ap (λ (r : Found). cond (listed k (Tag (byte s p))) r Nothing)
         (agree (shapeOf (byte s p)) (dataAt s p) (omega (arith, w .1, fields-within s p)))
         ∙ ap₂ (λ (tag start : ℕ). cond (listed k (Tag tag)) (g (shapeOf tag) start) Nothing) (tag-same s t long same p h) (data-same s t long same p h))
@@ -98,12 +98,12 @@ module _ (s t : List ℕ) (long : 4 ≤ total s) (same : Same s t 0 (total s)) w
         ap length
         (texts-same s t long same (pool k s) (omega (arith, unpassed-pool k s fit)) ∙ ap (texts t) (pool-same s t long same k))
 
-    index-same : (count : ℕ) (a : Shape) (start : ℕ) → start + fieldBytes a ≤ last s → badIndex s count a start ≡ badIndex t count a start
+    index-same : (count : ℕ) (a : Shape) (start : ℕ) → start + fieldBytes a ≤ checkPlace s → badIndex s count a start ≡ badIndex t count a start
     unfolding badIndex
     index-same count a start h =
-        search-agree (beyond s count) (beyond t count) (ahead 1) (start + references a) one-grows start
+        search-agree (beyond s count) (beyond t count) (ahead 1) (start + indexCount a) one-grows start
         (λ p _ l.
-        ap (λ (b : ℕ). when (leb count b) p) (same p (omega arith) (omega (arith, l, h, references-within a))))
+        ap (λ (b : ℕ). when (leb count b) p) (same p (omega arith) (omega (arith, l, h, indexes-within a))))
 
     rule10-same : rule10 k s ≡ rule10 k t
     unfolding rule10
@@ -114,19 +114,19 @@ module _ (s t : List ℕ) (long : 4 ≤ total s) (same : Same s t 0 (total s)) w
         ∙ ap (λ (n : ℕ). first (onKnown k t (badIndex t n)) (items t)) count-same)
 
     -- rule 11: the fields are equal
-    revision-same : (start : ℕ) → start + 6 ≤ last s → badRevision s start ≡ badRevision t start
+    revision-same : (start : ℕ) → start + 6 ≤ checkPlace s → badRevision s start ≡ badRevision t start
     unfolding badRevision
     revision-same start h i =
         orElse (when (not (isMajor (same (start + 2) (omega arith) (omega arith) i))) (start + 2))
         (orElse (when (not (isMinor (same (start + 3) (omega arith) (omega arith) i))) (start + 3))
         (when (not (isText (same (start + 4) (omega arith) (omega arith) i) && isText (same (start + 5) (omega arith) (omega arith) i))) (start + 4)))
 
-    batch-same : (start : ℕ) → start + 8 ≤ last s → badBatch s start ≡ badBatch t start
+    batch-same : (start : ℕ) → start + 8 ≤ checkPlace s → badBatch s start ≡ badBatch t start
     unfolding badBatch
     batch-same start h =
         ap (λ (b : ℕ). when (not (isBatch b)) (start + 6)) (le16-same s t 0 (total s) same (start + 6) (omega arith) (omega arith))
 
-    field-same : (a : Shape) (start : ℕ) → start + fieldBytes a ≤ last s → badField s a start ≡ badField t a start
+    field-same : (a : Shape) (start : ℕ) → start + fieldBytes a ≤ checkPlace s → badField s a start ≡ badField t a start
     field-same Shape.Pool start h = refl
     field-same Shape.Serial start h = refl
     field-same Shape.Flags start h = refl
@@ -163,9 +163,9 @@ module _ (s t : List ℕ) (long : 4 ≤ total s) (same : Same s t 0 (total s)) w
     rule5-same : rule5 s ≡ rule5 t
     unfolding rule5
     rule5-same =
-        ap₂ (λ (b c : ℕ). when (not (eqb b c)) (last s)) (same (last s) (omega arith) (omega arith))
-        (ap crc8 (take-same s t (last s) (same-part s t 0 (total s) 0 (last s) (omega arith) (omega arith) same) (omega arith) (omega arith)))
-        ∙ ap (λ (n : ℕ). when (not (eqb (byte t n) (crc8 (take n t)))) n) (last-same s t long same)
+        ap₂ (λ (b c : ℕ). when (not (eqb b c)) (checkPlace s)) (same (checkPlace s) (omega arith) (omega arith))
+        (ap crc8 (take-same s t (checkPlace s) (same-part s t 0 (total s) 0 (checkPlace s) (omega arith) (omega arith) same) (omega arith) (omega arith)))
+        ∙ ap (λ (n : ℕ). when (not (eqb (byte t n) (crc8 (take n t)))) n) (check-same s t long same)
 
     rules-same : (k : Kinds) → Agree (rules k s) (rules k t)
     rules-same k =

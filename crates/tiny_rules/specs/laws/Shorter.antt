@@ -16,12 +16,13 @@ use Rattle.kinds.specs.Kinds.{listed, Contains}
 use Rattle.kinds.specs.declared.Kind.the-variants.{Tag}
 use Rattle.kinds.specs.declared.Kinds.{Kinds}
 use Rattle.octets.specs.Bytes.{byte}
-use Rattle.tiny_layout.specs.Layout.{last, dataAt, next, items}
+use Rattle.tiny_layout.specs.Layout.{checkPlace, dataAt, next, items}
 use Rattle.tiny_layout.specs.Pool.{poolAt, pool}
 use Rattle.tiny_layout.specs.Strings.{texts}
 use Rattle.tiny_layout.specs.Tags.{shapeOf}
 use Rattle.tiny_layout.specs.declared.Pool.{Pool}
 use Rattle.tiny_layout.specs.declared.Shape.{Shape}
+use Rattle.tiny_layout.specs.laws.Pool.{poolBy}
 use Rattle.tiny_rules.specs.Judged.{rules, judged}
 use Rattle.tiny_rules.specs.Rules.{rule8, unfit, rule9, onKnown, badIndex, rule10, badField, rule11}
 use Rattle.tiny_rules.specs.laws.Tests.{mark-weaker}
@@ -32,10 +33,7 @@ use Rattle.verdict.specs.laws.Accepted.{weaker-accepts}
 never : (l : List ℕ) → first (λ p. Nothing) l ≡ Nothing
 never l = first-none (λ p. Nothing) l (all-of (λ p. _≡_ {A = Found} Nothing Nothing) (λ p. refl) l)
 
--- the pool by the mark of 01: where it lies, and its string count
-abbrev poolBy : List ℕ → Bool → Pool
-poolBy s b = poolAt s (first (λ p. when (b && eqb (byte s p) 0x01) p) (items s))
-
+-- the string count by the mark of 01
 abbrev countBy : List ℕ → Bool → ℕ
 countBy s b = length (texts s (poolBy s b))
 
@@ -64,7 +62,7 @@ module _ (longer shorter : Kinds) (c : Contains longer shorter) (s : List ℕ) w
   rule8-weaker : rule8 longer s ≡ Nothing → rule8 shorter s ≡ Nothing
   unfolding rule8
   rule8-weaker =
-      pool-weaker (λ b. first (λ p. when (b && eqb (byte s p) 0x01 && ltb (next s p) (last s)) p) (items s)) (never (items s))
+      pool-weaker (λ b. first (λ p. when (b && eqb (byte s p) 0x01 && ltb (next s p) (checkPlace s)) p) (items s)) (never (items s))
 
   rule9-weaker : rule9 longer s ≡ Nothing → rule9 shorter s ≡ Nothing
   unfolding rule9 pool first chain visit

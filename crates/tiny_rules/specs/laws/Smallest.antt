@@ -23,13 +23,13 @@ use Rattle.kinds.specs.declared.Kind.the-variants.{Tag}
 use Rattle.kinds.specs.declared.Kinds.{Kinds}
 use Rattle.octets.specs.Bytes.{byte, le16}
 use Rattle.octets.specs.Label.{isText}
-use Rattle.tiny_layout.specs.Layout.{last, dataAt, next, items}
+use Rattle.tiny_layout.specs.Layout.{checkPlace, dataAt, next, items}
 use Rattle.tiny_layout.specs.Pool.{pool}
 use Rattle.tiny_layout.specs.Strings.{isMarked, letter, texts}
-use Rattle.tiny_layout.specs.Tags.{shapeOf, references, fieldBytes}
+use Rattle.tiny_layout.specs.Tags.{shapeOf, indexCount, fieldBytes}
 use Rattle.tiny_layout.specs.declared.Shape.{Shape}
 use Rattle.tiny_layout.specs.laws.Layout.{data-after, next-grows}
-use Rattle.tiny_layout.specs.laws.Tags.{fields-within, references-within}
+use Rattle.tiny_layout.specs.laws.Tags.{fields-within, indexes-within}
 use Rattle.tiny_rules.specs.Rules.{passes, rule6, reserved, rule7, early, rule8, unfit, rule9, onKnown, badIndex, rule10, isMajor, isMinor, isBatch, badRevision, badBatch, badField, rule11}
 use Rattle.tiny_rules.specs.Tests.{dataRule, asked}
 use Rattle.tiny_rules.specs.declared.fields.DataRule.{DataRule}
@@ -62,7 +62,7 @@ rule9-smallest k s z e q h l =
 pub index-smallest : (s : List ℕ) (count : ℕ) (a : Shape) (start z : ℕ) → badIndex s count a start ≡ At z → (count ≤ byte s z) × ((q : ℕ) → start ≤ q → q < z → byte s q < count)
 unfolding badIndex
 index-smallest s count a start z e =
-    let end : ℕ = start + references a in (
+    let end : ℕ = start + indexCount a in (
       leb-true count (byte s z) (place-passes (λ q. leb count (byte s q)) start end z e),
       λ q h l. leb-false count (byte s q) (none-before (λ q. leb count (byte s q)) start end z e q h l),
     )
@@ -70,8 +70,8 @@ index-smallest s count a start z e =
 index-inside : (s : List ℕ) (count : ℕ) (a : Shape) (start z : ℕ) → badIndex s count a start ≡ At z → (start ≤ z) × (z < start + fieldBytes a)
 unfolding badIndex
 index-inside s count a start z e =
-    let w = place-inside (λ q. leb count (byte s q)) start (start + references a) z e in
-    (w .0, omega (arith, w .1, references-within a))
+    let w = place-inside (λ q. leb count (byte s q)) start (start + indexCount a) z e in
+    (w .0, omega (arith, w .1, indexes-within a))
 
 -- ---- the fields of an item that have a range, in ascending order: the place of each one's first byte, and whether it is in range
 -- major, minor, and the two characters as one field
@@ -204,16 +204,16 @@ asked-inside test k s p z = go test
     known rule false e = absurd (at-nothing (sym e))
 
     go : (test : Test) → asked test k s p ≡ At z → (p ≤ z) × (z < next s p)
-    go Passes e = start (ltb (last s) (dataAt s p) || ltb (last s) (next s p)) e
+    go Passes e = start (ltb (checkPlace s) (dataAt s p) || ltb (checkPlace s) (next s p)) e
     go Reserved e = start (eqb (byte s p) 0x00) e
-    go Early e = start (listed k (Tag 0x01) && eqb (byte s p) 0x01 && ltb (next s p) (last s)) e
+    go Early e = start (listed k (Tag 0x01) && eqb (byte s p) 0x01 && ltb (next s p) (checkPlace s)) e
     go (Data rule) e = known rule (listed k (Tag (byte s p))) e
     go (Known tag) e = start (listed k (Tag tag) && eqb (byte s p) tag) e
 
 -- the search along the items gives the smallest place: no item's answer is smaller
 pub asked-smallest : (test : Test) (k : Kinds) (s : List ℕ) (z : ℕ) → first (asked test k s) (items s) ≡ At z → All (λ p. (q : ℕ) → asked test k s p ≡ At q → z ≤ q) (items s)
 asked-smallest test k s z e =
-    search-smallest (asked test k s) (next s) (last s) (next-grows s)
+    search-smallest (asked test k s) (next s) (checkPlace s) (next-grows s)
     (λ p q d. let w = asked-inside test k s p q d in (w .0, omega (arith, w .1))) 3 z e
 
 -- ---- the rules along the items. (Rules 6 and 7 ask the same with every list: the bare one stands for all.)

@@ -5,7 +5,8 @@ use mathlib.Core.Logic.{_⊎_, inl, inr}
 use mathlib.Core.Path.{_≡_, refl, ap, ap₂, _∙_}
 use Rattle.chain.specs.declared.Found.{Found}
 use Rattle.chain.specs.declared.Found.the-variants.{At, Nothing}
-use Rattle.verdict.specs.Verdict.{values, refusal, refuse, answer}
+use Rattle.verdict.specs.Said.{fields, judgedSaid}
+use Rattle.verdict.specs.Verdict.{refusal, refuse, answer}
 use Rattle.verdict.specs.declared.Judged.{Judged}
 use Rattle.verdict.specs.laws.Accepted.{Clear}
 
@@ -30,8 +31,8 @@ refused-by (r ∷ rs) j n p e = go (r .1) refl e (λ k. refused-by rs j n p k)
           earlier = [];
           later = rs;
           split =
-              ap₂ (λ (m : ℕ) (f : Found). (m, f) ∷ rs) (ap (λ (k : Judged). values k .number) e)
-              (d ∙ ap (λ (k : Judged). At (values k .place)) e);
+              ap₂ (λ (m : ℕ) (f : Found). (m, f) ∷ rs) (ap (λ (k : Judged). fields (judgedSaid k) .number) e)
+              (d ∙ ap (λ (k : Judged). At (fields (judgedSaid k) .place)) e);
           kept = tt;
         }
 

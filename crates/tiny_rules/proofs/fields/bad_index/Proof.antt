@@ -16,8 +16,8 @@ Inv-loop image count start end at₀ at = first (beyond image count) (chain (ahe
 abbrev μ-loop : tie.MeasureT-loop
 μ-loop image count start end at₀ at = end - at
 
-reference-count-requires : tie.Need-reference-count-requires Inv-loop μ-loop
-reference-count-requires c κs = omega arith
+index-count-requires : tie.Need-index-count-requires Inv-loop μ-loop
+index-count-requires c κs = omega arith
 
 cast-end : tie.Need-cast-end Inv-loop μ-loop
 cast-end c = omega arith
@@ -36,7 +36,7 @@ cast-if1 c = omega arith
 
 returns : tie.Need-returns Inv-loop μ-loop
 unfolding badIndex
-returns c = rw (← (c .before .before .before .before .reference-count .ensures)) (hit _ _ _ one-grows _ _ (c .before .before .loop-test .taken) (rw (le-leb _ _ (rw (c .before .byte-at .ensures) at (c .if1 .taken)))) (c .before .before .before .loop .inv))
+returns c = rw (← (c .before .before .before .before .index-count .ensures)) (hit _ _ _ one-grows _ _ (c .before .before .loop-test .taken) (rw (le-leb _ _ (rw (c .before .byte-at .ensures) at (c .if1 .taken)))) (c .before .before .before .loop .inv))
 
 add-at : tie.Need-add-at Inv-loop μ-loop
 add-at c = omega arith
@@ -49,7 +49,7 @@ loop-again c = turn _ _ _ one-grows _ _ (c .before .before .loop-test .taken) (r
 
 returns-2 : tie.Need-returns-2 Inv-loop μ-loop
 unfolding badIndex
-returns-2 c = rw (← (c .before .before .reference-count .ensures)) (done _ _ _ one-grows _ (c .loop-test .left) (c .before .loop .inv))
+returns-2 c = rw (← (c .before .before .index-count .ensures)) (done _ _ _ one-grows _ (c .loop-test .left) (c .before .loop .inv))
 
 pub bad-index-spec : {M : Type 1} → statement M
 bad-index-spec =
@@ -57,7 +57,7 @@ bad-index-spec =
     (tie.spec
     Inv-loop
     μ-loop
-    reference-count-requires
+    index-count-requires
     cast-end
     add-end
     loop-holds

@@ -7,14 +7,14 @@ use Rattle.chain.specs.Chain.{chain}
 use Rattle.chain.specs.First.{first}
 use Rattle.chain.specs.laws.Loops.{turn, hit, done}
 use Rattle.octets.specs.Bytes.{byte}
-use Rattle.tiny_layout.specs.Layout.{last, next}
+use Rattle.tiny_layout.specs.Layout.{checkPlace, next}
 use Rattle.tiny_layout.specs.laws.Layout.{head-bounds, next-grows}
 use Rattle.tiny_rules.proofs.items.first_from.Statement.{statement}
 use Rattle.tiny_rules.specs.Tests.{asked}
 use Rattle.tiny_rules.proofs.items.first_from.Tie as tie
 
 abbrev Inv-loop : tie.InvT-loop
-Inv-loop test image kinds from end at₀ at = first (asked test kinds image) (chain (next image) (last image) at) ≡ first (asked test kinds image) (chain (next image) (last image) from)
+Inv-loop test image kinds from end at₀ at = first (asked test kinds image) (chain (next image) (checkPlace image) at) ≡ first (asked test kinds image) (chain (next image) (checkPlace image) from)
 
 abbrev μ-loop : tie.MeasureT-loop
 μ-loop test image kinds from end at₀ at = end - at

@@ -1,9 +1,9 @@
--- `major_text` meets its contract: two tests, two answers. Assumes nothing.
+-- `fields::major_text` meets its contract: two tests, two answers. Assumes nothing.
 use borrow.Author.Needs.{needs}
 use borrow.Author.Tests.{lt-ltb, le-ltb}
-use Rattle.tiny.proofs.major_text.Statement.{statement}
+use Rattle.tiny.proofs.fields.major_text.Statement.{statement}
 use Rattle.tiny.specs.Major.{majorText}
-use Rattle.tiny.proofs.major_text.Tie as tie
+use Rattle.tiny.proofs.fields.major_text.Tie as tie
 
 add-t4 : tie.Need-add-t4
 add-t4 c = search needs

@@ -1,8 +1,8 @@
--- `identity_at` meets its contract, field by field. Assumes nothing.
+-- `fields::identity_at` meets its contract, field by field. Assumes nothing.
 use borrow.Author.Needs.{needs}
-use Rattle.tiny.proofs.identity_at.Statement.{statement}
+use Rattle.tiny.proofs.fields.identity_at.Statement.{statement}
 use Rattle.tiny.specs.Items.{identityAt}
-use Rattle.tiny.proofs.identity_at.Tie as tie
+use Rattle.tiny.proofs.fields.identity_at.Tie as tie
 
 byte-at-requires : tie.Need-byte-at-requires
 byte-at-requires c κs = search needs

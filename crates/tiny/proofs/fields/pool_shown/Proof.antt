@@ -1,8 +1,8 @@
--- `pool_shown` meets its contract, field by field. Assumes nothing.
+-- `fields::pool_shown` meets its contract, field by field. Assumes nothing.
 use borrow.Author.Needs.{needs}
-use Rattle.tiny.proofs.pool_shown.Statement.{statement}
+use Rattle.tiny.proofs.fields.pool_shown.Statement.{statement}
 use Rattle.tiny.specs.Items.{poolShown}
-use Rattle.tiny.proofs.pool_shown.Tie as tie
+use Rattle.tiny.proofs.fields.pool_shown.Tie as tie
 
 string-count-requires : tie.Need-string-count-requires
 string-count-requires c κs = search needs

@@ -1,9 +1,9 @@
--- `item_at` meets its contract: the fields are shown where the tag is on the list. Assumes nothing.
+-- `fields::item_at` meets its contract: the fields are shown where the tag is on the list. Assumes nothing.
 use mathlib.Core.Path.{sym, _∙_}
 use borrow.Author.Needs.{needs}
-use Rattle.tiny.proofs.item_at.Statement.{statement}
+use Rattle.tiny.proofs.fields.item_at.Statement.{statement}
 use Rattle.tiny.specs.Items.{itemAt}
-use Rattle.tiny.proofs.item_at.Tie as tie
+use Rattle.tiny.proofs.fields.item_at.Tie as tie
 
 byte-at-requires : tie.Need-byte-at-requires
 byte-at-requires c κs = search needs

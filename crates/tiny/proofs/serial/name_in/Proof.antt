@@ -1,4 +1,4 @@
--- `name_in` meets its contract: at each return, what the item and its reference are known to be. Assumes nothing.
+-- `serial::name_in` meets its contract: at each return, what the item and its reference are known to be. Assumes nothing.
 use mathlib.Core.List.{[], _∷_}
 use mathlib.Core.Logic.{⊎-elim}
 use mathlib.Core.Path.{_≡_, refl, sym, ap, _∙_}
@@ -9,13 +9,13 @@ use types.Run.{OneOf}
 use Rattle.tiny_layout.specs.Pool.{pool}
 use Rattle.tiny_layout.specs.declared.Reference.{Reference}
 use Rattle.tiny.proofs.Item.{the-type}
-use Rattle.tiny.proofs.name_in.Statement.{statement}
+use Rattle.tiny.proofs.serial.name_in.Statement.{statement}
 use Rattle.tiny.specs.Answers.{serialOf}
 use Rattle.tiny.specs.Items.{itemAt}
 use Rattle.tiny.specs.declared.Item.{Item}
 use Rattle.tiny.specs.declared.ShownItem.{ShownItem}
 use Rattle.tiny.specs.laws.Serials.{serial-known}
-use Rattle.tiny.proofs.name_in.Tie as tie
+use Rattle.tiny.proofs.serial.name_in.Tie as tie
 
 -- a serial is case 1
 not-one : OneOf (0 ∷ 2 ∷ 3 ∷ 4 ∷ 5 ∷ 6 ∷ []) 1 → ⊥

@@ -1,8 +1,8 @@
--- `batched_at` meets its contract: the identity, and the batch. Assumes nothing.
+-- `fields::batched_at` meets its contract: the identity, and the batch. Assumes nothing.
 use borrow.Author.Needs.{needs}
-use Rattle.tiny.proofs.batched_at.Statement.{statement}
+use Rattle.tiny.proofs.fields.batched_at.Statement.{statement}
 use Rattle.tiny.specs.Items.{batchedAt}
-use Rattle.tiny.proofs.batched_at.Tie as tie
+use Rattle.tiny.proofs.fields.batched_at.Tie as tie
 
 identity-at-requires : tie.Need-identity-at-requires
 identity-at-requires c κs = search needs

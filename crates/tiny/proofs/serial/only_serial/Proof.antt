@@ -1,15 +1,15 @@
--- `only_serial` meets its contract. Two searches, the second from behind what the first found, tell the only one (`only-none`, `only-one`, `only-two`).
+-- `serial::only_serial` meets its contract. Two searches, the second from behind what the first found, tell the only one (`only-none`, `only-one`, `only-two`).
 -- Assumes nothing.
 use mathlib.Core.Path.{sym, _∙_}
 use native.Mathlib.Omega.{arith}
 use borrow.Author.Needs.{needs}
 use Rattle.chain.specs.laws.Keep.{only-none, only-one, only-two}
-use Rattle.tiny_layout.specs.Layout.{last, next, items}
+use Rattle.tiny_layout.specs.Layout.{checkPlace, next, items}
 use Rattle.tiny_layout.specs.laws.Layout.{next-grows}
 use Rattle.tiny_layout.specs.laws.Pool.{known-found}
-use Rattle.tiny.proofs.only_serial.Statement.{statement}
+use Rattle.tiny.proofs.serial.only_serial.Statement.{statement}
 use Rattle.tiny.specs.Answers.{isSerial}
-use Rattle.tiny.proofs.only_serial.Tie as tie
+use Rattle.tiny.proofs.serial.only_serial.Tie as tie
 
 first-from-requires : tie.Need-first-from-requires
 first-from-requires c κs = search needs
@@ -50,14 +50,14 @@ unfolding next
 returns-2 c =
     let a = c .before .before .before .before .before .before .before .before .before .args in
     let s = a .image .now in
-    sym (only-two (isSerial (a .kinds) s) (next s) (last s) (next-grows s) 3 _ _ (sym (c .before .before .before .before .before .before .before .first-from .ensures) ∙ c .before .before .before .before .before .at .given .1) (sym (rw (c .before .before .before .item-size .ensures) at (c .before .before .first-from2 .ensures)) ∙ c .enum-told3 .given .1))
+    sym (only-two (isSerial (a .kinds) s) (next s) (checkPlace s) (next-grows s) 3 _ _ (sym (c .before .before .before .before .before .before .before .first-from .ensures) ∙ c .before .before .before .before .before .at .given .1) (sym (rw (c .before .before .before .item-size .ensures) at (c .before .before .first-from2 .ensures)) ∙ c .enum-told3 .given .1))
 
 returns-3 : tie.Need-returns-3
 unfolding next
 returns-3 c =
     let a = c .before .before .before .before .before .before .before .before .before .args in
     let s = a .image .now in
-    sym (only-one (isSerial (a .kinds) s) (next s) (last s) (next-grows s) 3 _ (sym (c .before .before .before .before .before .before .before .first-from .ensures) ∙ c .before .before .before .before .before .at .given .1) (sym (rw (c .before .before .before .item-size .ensures) at (c .before .before .first-from2 .ensures)) ∙ c .enum-told2 .given .1))
+    sym (only-one (isSerial (a .kinds) s) (next s) (checkPlace s) (next-grows s) 3 _ (sym (c .before .before .before .before .before .before .before .first-from .ensures) ∙ c .before .before .before .before .before .at .given .1) (sym (rw (c .before .before .before .item-size .ensures) at (c .before .before .first-from2 .ensures)) ∙ c .enum-told2 .given .1))
 
 pub only-serial-spec : {M : Type 1} → statement M
 only-serial-spec =

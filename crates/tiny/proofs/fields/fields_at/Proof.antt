@@ -1,7 +1,7 @@
--- `fields_at` meets its contract, row by row. Assumes nothing.
+-- `fields::fields_at` meets its contract, row by row. Assumes nothing.
 use borrow.Author.Needs.{needs}
-use Rattle.tiny.proofs.fields_at.Statement.{statement}
-use Rattle.tiny.proofs.fields_at.Tie as tie
+use Rattle.tiny.proofs.fields.fields_at.Statement.{statement}
+use Rattle.tiny.proofs.fields.fields_at.Tie as tie
 
 byte-at-requires : tie.Need-byte-at-requires
 byte-at-requires c κs = search needs

@@ -1,4 +1,4 @@
--- `copy_text` meets its contract. The loop's invariant: the first i bytes are those of the text, and the rest is as it was. Assumes nothing.
+-- `serial::copy_text` meets its contract. The loop's invariant: the first i bytes are those of the text, and the rest is as it was. Assumes nothing.
 use Prim.Native.Nat.{ℕ, _+_, _-_, _≤_}
 use mathlib.Core.List.{List}
 use mathlib.Core.Path.{_≡_, refl, ap}
@@ -9,9 +9,9 @@ use Rattle.chain.specs.Fill.{filled}
 use Rattle.chain.specs.laws.Fill.{fill-start, fill-turn, fill-done}
 use Rattle.octets.specs.Bytes.{byte}
 use Rattle.tiny_layout.specs.Strings.{letter}
-use Rattle.tiny.proofs.copy_text.Statement.{statement}
+use Rattle.tiny.proofs.serial.copy_text.Statement.{statement}
 use Rattle.tiny.specs.declared.NameAnswer.{NameAnswer}
-use Rattle.tiny.proofs.copy_text.Tie as tie
+use Rattle.tiny.proofs.serial.copy_text.Tie as tie
 
 abbrev Inv-loop : tie.InvT-loop
 Inv-loop image span buffer₀ i₀ buffer i = (buffer ≡ filled (λ j. letter (byte image (span .place + j))) i buffer₀) × (i ≤ span .length) × (length buffer ≡ length buffer₀)
