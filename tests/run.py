@@ -4,8 +4,8 @@
     run.py [IMAGES [SEED]]
 
 1. every sample is listed as stored beside it; input of a million bytes is listed, and a read error is said;
-2. every answer of `tiny_answers` for IMAGES images, each with two lists, is the answer of tests/reference/tiny.c, and the judge's answer
-   with the full list is the one that the image was made for;
+2. every answer of `tiny_answers` for IMAGES images, each with two lists, is the answer of tests/reference/tiny.c; and where an image was
+   made for an answer of the judge with the full list, it gets that;
 3. `tiny_list` lists some of them as tests/reference/tiny.c does;
 4. each refusal number from 1 to 11, and 42, 43 and 44, was among the answers.
 """

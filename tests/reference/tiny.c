@@ -1,6 +1,5 @@
 /*
- * A reader and lister of tiny images in C, written from the papers alone and from no line of the Rattle code, to
- * hold that code against: the build paper, the layout paper, the readings in docs/DECISIONS.md, docs/LISTING.md.
+ * A reader and lister of tiny images in C, to hold the Rattle code against. tests/README.md says what it was written from.
  *
  *     tiny list < image         the listing of docs/LISTING.md, full list
  *     tiny answers < records    every answer, for a run of images with their lists; tests/README.md has the form
@@ -257,23 +256,23 @@ static struct answer item_by_number(const uint8_t *image, size_t lent, unsigned 
 
 static struct answer name(const uint8_t *image, size_t lent, unsigned list, uint8_t *buffer, size_t size) {
     struct answer judged = judge(image, lent, list);
-    struct item item, carrier = {0};
-    unsigned carriers = 0;
+    struct item item, serial = {0};
+    unsigned serials = 0;
     if (judged.refusal)
         return judged;
     for (unsigned i = 0; i < judged.value; i++) {
         item_by_number(image, lent, list, i, &item);
         if (item.known && item.tag == 0x10) {
-            carriers++;
-            carrier = item;
+            serials++;
+            serial = item;
         }
     }
-    if (carriers != 1 || !carrier.serial.decodable)
+    if (serials != 1 || !serial.serial.decodable)
         return refuse(44, 0);
-    if (size < carrier.serial.length)
+    if (size < serial.serial.length)
         return refuse(43, 0);
-    memcpy(buffer, carrier.serial.bytes, carrier.serial.length);
-    return accept(carrier.serial.length);
+    memcpy(buffer, serial.serial.bytes, serial.serial.length);
+    return accept(serial.serial.length);
 }
 
 /* ---- printing ---- */
@@ -427,7 +426,7 @@ static void all_answers(const uint8_t *image, size_t lent, unsigned list) {
         printf("\nname %u ", sizes[i]);
         if (!print_refusal(named))
             printf("length %u", named.value);
-        print_hex(" ", buffer, 8);
+        print_hex(" ", buffer, sizes[i] < 8 ? 8 : sizes[i]);
     }
     putchar('\n');
 }

@@ -9,13 +9,11 @@ use tiny::name;
 ghost use Prim.Native.Nat.{_≤_};
 ghost use lib.ListN.{length};
 
-// The first eight bytes of the block.
+// The bytes of the block.
 fn put_bytes(block: &[u8]) {
     let mut i = 0;
-    while i < 8 {
-        if i < block.len() {
-            put_hex(block[i]);
-        }
+    while i < block.len() {
+        put_hex(block[i]);
         i += 1;
     }
     put(b"\n");
@@ -45,12 +43,12 @@ fn put_name(image: &[u8], kinds: Kinds, size: usize, block: &mut [u8])
 
 // Each time with a block of AAh.
 pub fn put_names(image: &[u8], kinds: Kinds) {
-    let mut none = [0xAAu8; 255];
+    let mut none = [0xAAu8; 8];
     put_name(image, kinds, 0, &mut none);
-    let mut three = [0xAAu8; 255];
+    let mut three = [0xAAu8; 8];
     put_name(image, kinds, 3, &mut three);
-    let mut four = [0xAAu8; 255];
+    let mut four = [0xAAu8; 8];
     put_name(image, kinds, 4, &mut four);
-    let mut all = [0xAAu8; 255];
-    put_name(image, kinds, 255, &mut all);
+    let mut most = [0xAAu8; 255];
+    put_name(image, kinds, 255, &mut most);
 }

@@ -1,6 +1,7 @@
 -- `names::put_bytes` meets its contract: it ends. Assumes nothing.
 use Prim.Native.Nat.{_-_}
 use native.Mathlib.Omega.{arith}
+use lib.ListN.{length}
 use borrow.Author.Needs.{needs}
 use Rattle.tiny_answers.proofs.names.put_bytes.Statement.{statement}
 use Rattle.tiny_answers.proofs.names.put_bytes.Tie as tie
@@ -9,7 +10,7 @@ abbrev Inv-loop : tie.InvT-loop
 Inv-loop block i₀ t3 i = Unit {0}
 
 abbrev μ-loop : tie.MeasureT-loop
-μ-loop block i₀ t3 i = 8 - i
+μ-loop block i₀ t3 i = length block - i
 
 loop-holds : tie.Need-loop-holds Inv-loop μ-loop
 loop-holds c = tt
