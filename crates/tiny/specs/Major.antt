@@ -11,7 +11,7 @@ digit n = 0x30 + n
 abbrev pub capital : ℕ → ℕ
 capital n = 0x41 + n
 
--- two digits; or '0' and a letter. (Which majors are in range is rule 11's business.)
+-- two digits; or '0' and a letter. (Rule 11 says which majors are in range.)
 unfoldable pub majorText : ℕ → Two
 majorText m =
     cond (ltb m 0x80) (record { first = digit (m / 10); second = digit (m % 10) })

@@ -42,7 +42,7 @@ pub fn put_strings(image: &[u8], kinds: Kinds) {
         i += 1;
     }
     put_string(image, kinds, i);
-    // (A pool has fewer strings than that.)
+    // (A pool has at most 255 bytes, so it has fewer strings than 65,536.)
     if i < 65536 {
         put_string(image, kinds, i + 1);
     }

@@ -206,7 +206,7 @@ pub fn string_place(image: &[u8], pool: Pool, number: usize) -> Found
     place_of(Along::Strings, image, pool.from as usize, pool.to, number)
 }
 
-// Where the string at a place lies, in a pool that ends at `to`.
+// Where the string at a place of a pool lies; the pool ends at `to`. (Past it, one byte.)
 pub fn string_at(image: &[u8], to: u16, at: usize) -> Span
     ensures { λ r. ⌜ r ≡ spanAt (now (image .entry)) to at ⌝ }
 {

@@ -63,8 +63,14 @@ unfoldable pub rule8 : Kinds → List ℕ → Found
 rule8 k s = first (early k s) (items s)
 
 -- 9: listed pool: a byte's low seven bits not 20h to 7Eh; last byte unmarked
+abbrev pub noCharacter : List ℕ → ℕ → Bool
+noCharacter s p = not (isText (letter (byte s p)))
+
+abbrev pub endUnmarked : List ℕ → ℕ → ℕ → Bool
+endUnmarked s to p = eqb (p + 1) to && not (isMarked (byte s p))
+
 abbrev pub unfit : List ℕ → ℕ → ℕ → Found
-unfit s to p = when (not (isText (letter (byte s p))) || eqb (p + 1) to && not (isMarked (byte s p))) p
+unfit s to p = when (noCharacter s p || endUnmarked s to p) p
 
 unfoldable pub rule9 : Kinds → List ℕ → Found
 rule9 k s = first (unfit s (pool k s .to)) (range (pool k s .from) (pool k s .to))

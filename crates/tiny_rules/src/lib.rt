@@ -19,8 +19,8 @@ ghost use Rattle.tiny_rules.specs.Rules.{rule5, rule9, rule10};
 ghost use Rattle.tiny_rules.specs.Tests.{asked};
 ghost use Rattle.verdict.specs.Verdict.{answer};
 
-pub mod bytes;
-pub mod fields;
+mod bytes;
+mod fields;
 pub mod items;
 
 use bytes::first_unfit;

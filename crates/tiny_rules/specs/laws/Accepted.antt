@@ -28,7 +28,7 @@ use Rattle.tiny_layout.specs.Tags.{shapeOf, indexCount}
 use Rattle.tiny_layout.specs.declared.Shape.{Shape}
 use Rattle.tiny_layout.specs.laws.Layout.{items-within}
 use Rattle.tiny_rules.specs.Judged.{rules, judged}
-use Rattle.tiny_rules.specs.Rules.{rule2, rule3, rule4, rule5, passes, rule6, reserved, rule7, early, rule8, rule9, onKnown, badIndex, rule10, badField, rule11}
+use Rattle.tiny_rules.specs.Rules.{noCharacter, endUnmarked, rule2, rule3, rule4, rule5, passes, rule6, reserved, rule7, early, rule8, rule9, onKnown, badIndex, rule10, badField, rule11}
 use Rattle.tiny_rules.specs.laws.Tests.{neither, second-fails, kept-equal, under-mark}
 use Rattle.verdict.specs.declared.Judged.{Judged}
 use Rattle.verdict.specs.declared.Judged.the-variants.{Accepted}
@@ -140,11 +140,11 @@ module _ (k : Kinds) (s : List ℕ) (n : ℕ) (e : judged k s ≡ Accepted n) wh
 
   -- rule 9 at each byte of the pool
   pool-byte : (p : ℕ) → pool k s .from ≤ p → p < pool k s .to
-      → (not (isText (letter (byte s p))) ≡ false) × (eqb (p + 1) (pool k s .to) && not (isMarked (byte s p)) ≡ false)
+      → (noCharacter s p ≡ false) × (endUnmarked s (pool k s .to) p ≡ false)
   unfolding rule9
   pool-byte p h l =
-      neither (not (isText (letter (byte s p)))) (eqb (p + 1) (pool k s .to) && not (isMarked (byte s p)))
-      (range-none (λ q. not (isText (letter (byte s q))) || eqb (q + 1) (pool k s .to) && not (isMarked (byte s q))) (λ q. q) (pool k s .to) (pool k s .from)
+      neither (noCharacter s p) (endUnmarked s (pool k s .to) p)
+      (range-none (λ q. noCharacter s q || endUnmarked s (pool k s .to) q) (λ q. q) (pool k s .to) (pool k s .from)
       (accepted-clear .1 .1 .1 .1 .1 .1 .1 .1 .0) p h l)
 
   -- each byte of the pool is a character, its end mark cleared

@@ -25,12 +25,12 @@ use Rattle.octets.specs.Bytes.{byte, le16}
 use Rattle.octets.specs.Label.{isText}
 use Rattle.tiny_layout.specs.Layout.{checkPlace, dataAt, next, items}
 use Rattle.tiny_layout.specs.Pool.{pool}
-use Rattle.tiny_layout.specs.Strings.{isMarked, letter, texts}
+use Rattle.tiny_layout.specs.Strings.{texts}
 use Rattle.tiny_layout.specs.Tags.{shapeOf, indexCount, fieldBytes}
 use Rattle.tiny_layout.specs.declared.Shape.{Shape}
 use Rattle.tiny_layout.specs.laws.Layout.{data-after, next-grows}
 use Rattle.tiny_layout.specs.laws.Tags.{fields-within, indexes-within}
-use Rattle.tiny_rules.specs.Rules.{passes, rule6, reserved, rule7, early, rule8, unfit, rule9, onKnown, badIndex, rule10, isMajor, isMinor, isBatch, badRevision, badBatch, badField, rule11}
+use Rattle.tiny_rules.specs.Rules.{noCharacter, endUnmarked, passes, rule6, reserved, rule7, early, rule8, unfit, rule9, onKnown, badIndex, rule10, isMajor, isMinor, isBatch, badRevision, badBatch, badField, rule11}
 use Rattle.tiny_rules.specs.Tests.{dataRule, asked}
 use Rattle.tiny_rules.specs.declared.fields.DataRule.{DataRule}
 use Rattle.tiny_rules.specs.declared.fields.DataRule.the-variants.{Index, Field}
@@ -56,7 +56,7 @@ pub rule9-smallest : (k : Kinds) (s : List ℕ) (z : ℕ) → rule9 k s ≡ At z
 unfolding rule9
 rule9-smallest k s z e q h l =
     ap (λ (b : Bool). when b q)
-    (none-before (λ p. not (isText (letter (byte s p))) || eqb (p + 1) (pool k s .to) && not (isMarked (byte s p))) (pool k s .from) (pool k s .to) z e q h l)
+    (none-before (λ p. noCharacter s p || endUnmarked s (pool k s .to) p) (pool k s .from) (pool k s .to) z e q h l)
 
 -- rule 10 in one item: the index at the place is not below the count, and each index before it is
 pub index-smallest : (s : List ℕ) (count : ℕ) (a : Shape) (start z : ℕ) → badIndex s count a start ≡ At z → (count ≤ byte s z) × ((q : ℕ) → start ≤ q → q < z → byte s q < count)
