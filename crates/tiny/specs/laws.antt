@@ -4,3 +4,5 @@ pub mod Strings
 pub mod Serials
 pub mod Same
 pub mod Resolved
+pub mod Exactly
+pub mod Front

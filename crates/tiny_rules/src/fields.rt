@@ -1,4 +1,6 @@
 // Rules 10 and 11: the data of a known item, by the row of its tag.
+use super::bytes::ByteTest;
+use super::bytes::first_byte;
 use chain::Found;
 use octets::byte_at;
 use octets::label::is_text;
@@ -22,15 +24,12 @@ fn bad_index(image: &[u8], count: usize, shape: Shape, start: usize) -> Found
     requires { ⌜ start < 65536 ⌝ }
     ensures { λ r. ⌜ r ≡ badIndex (now (image .entry)) count shape start ⌝ }
 {
-    let end = start + index_count(shape) as usize;
-    let mut at = start;
-    while at < end {
-        if count <= byte_at(image, at) as usize {
-            return Found::At(at);
-        }
-        at += 1;
-    }
-    Found::Nothing
+    first_byte(
+        ByteTest::Beyond(count),
+        image,
+        start,
+        start + index_count(shape) as usize,
+    )
 }
 
 // Whether a major is in range.

@@ -23,7 +23,8 @@ mod bytes;
 mod fields;
 pub mod items;
 
-use bytes::first_unfit;
+use bytes::ByteTest;
+use bytes::first_byte;
 use fields::DataRule;
 use items::Test;
 use items::first_from;
@@ -50,6 +51,14 @@ pub fn pool_of(image: &[u8], kinds: Kinds) -> Pool
     tiny_layout::pool_at(image, at as u8)
 }
 
+// Rule 9: the place of the first byte of the listed pool that breaks it.
+fn bad_pool(image: &[u8], kinds: Kinds) -> Found
+    ensures { λ r. ⌜ r ≡ rule9 kinds (now (image .entry)) ⌝ }
+{
+    let pool = pool_of(image, kinds);
+    first_byte(ByteTest::Unfit, image, pool.from as usize, pool.to as usize)
+}
+
 // Rule 10: the place of the first index that is not below the string count.
 fn bad_reference(image: &[u8], kinds: Kinds) -> Found
     ensures { λ r. ⌜ r ≡ rule10 kinds (now (image .entry)) ⌝ }
@@ -65,7 +74,7 @@ fn bad_reference(image: &[u8], kinds: Kinds) -> Found
 fn judge_data(image: &[u8], kinds: Kinds) -> Judged
     ensures { λ r. ⌜ r ≡ answer (drop 8 (rules kinds (now (image .entry)))) (Judged.Accepted (length (items (now (image .entry))))) ⌝ }
 {
-    if let Found::At(p) = first_unfit(image, pool_of(image, kinds)) {
+    if let Found::At(p) = bad_pool(image, kinds) {
         return refused(9, p);
     }
     if let Found::At(p) = bad_reference(image, kinds) {

@@ -1,13 +1,15 @@
 -- References in an accepted image. The string of a number is the text of that number in the pool. Where 01 is on the list, each reference inside a shown
 -- item is the text whose number its index byte holds (rule 10: there is one), a lookup gives the text or 42, and the name is the text of the only
--- serial; where 01 is not on the list, every reference and every string looked up is undecodable. Assumes nothing.
+-- serial, or 43 where the buffer has no room for it; where 01 is not on the list, every reference and every string looked up is undecodable.
+-- Assumes nothing.
 use Prim.Native.Nat.{ℕ, _+_, _≤_, _<_}
 use mathlib.Core.Bool.{Bool, true, false, cond}
 use mathlib.Core.List.{List, [], _++_}
 use mathlib.Core.Path.{_≡_, refl, sym, ap, subst, _∙_}
 use native.Mathlib.Omega.{arith}
+use lib.Dec.{leb}
 use lib.ListN.{length, getD, drop}
-use borrow.Author.Tests.{le-leb}
+use borrow.Author.Tests.{le-leb, lt-leb}
 use Rattle.chain.specs.All.{All}
 use Rattle.chain.specs.Chain.{visit, chain}
 use Rattle.chain.specs.Keep.{only}
@@ -33,7 +35,7 @@ use Rattle.tiny_layout.specs.laws.Pool.{no-pool}
 use Rattle.tiny_layout.specs.laws.Texts.{textAt, texts-placed, texts-count}
 use Rattle.tiny_rules.specs.Judged.{judged}
 use Rattle.tiny_rules.specs.laws.Accepted.{indexes-resolve}
-use Rattle.tiny.specs.Answers.{numbered, itemIf, itemNumbered, stringIf, stringNumbered, serials, serialOf, copied, nameAt, nameIf, nameOf}
+use Rattle.tiny.specs.Answers.{refusedWith, numbered, itemIf, itemNumbered, stringIf, stringNumbered, serials, serialOf, copied, nameAt, nameIf, nameOf}
 use Rattle.tiny.specs.Items.{identityAt, batchedAt, fieldsAt, itemAt}
 use Rattle.tiny.specs.Values.{ReferenceValue, text, undecodable, FieldValues, ItemValues, referenceValue, fieldValues, itemValues, itemSaid, stringSaid}
 use Rattle.tiny.specs.declared.Item.{Item}
@@ -74,7 +76,7 @@ module _ (s : List ℕ) (x : Pool) (n : ℕ) where
   value-text h = let r = reference-text h in ap (referenceValue s) (r .found) ∙ ap text (r .spells)
 
 -- without 01 on the list every reference is undecodable
-reference-unlisted : (k : Kinds) (s : List ℕ) → listed k (Tag 0x01) ≡ false → (n : ℕ) → reference s (pool k s) n ≡ Reference.Undecodable
+pub reference-unlisted : (k : Kinds) (s : List ℕ) → listed k (Tag 0x01) ≡ false → (n : ℕ) → reference s (pool k s) n ≡ Reference.Undecodable
 unfolding reference nth chain visit
 reference-unlisted k s off n = ap (λ (x : Pool). reference s x n) (no-pool k s off)
 
@@ -128,10 +130,6 @@ fields-each s x P p a h = go a h
     go Shape.Batched h = (first (h 0 (omega arith)), h 1 (omega arith))
     go Shape.Other h = tt
 
--- a text for which the buffer has room
-copied-whole : (s buffer : List ℕ) (span : Span) → span .length ≤ length buffer → copied s buffer (Reference.Text span) ≡ (NameAnswer.Length (span .length), textOf s span ++ drop (span .length) buffer)
-copied-whole s buffer span h = rw (le-leb (span .length) (length buffer) h)
-
 -- what is said is one value
 said-value : (a b : ItemValues) → says a ≡ says b → a ≡ b
 said-value a b e = cc
@@ -151,12 +149,24 @@ module _ (k : Kinds) (s : List ℕ) (c : ℕ) (e : judged k s ≡ Accepted c) wh
   Claimed P p =
       listed k (Tag (byte s p)) ≡ true → (i : ℕ) → i < indexCount (shapeOf (byte s p)) → P p i (referenceValue s (reference s (pool k s) (byte s (dataAt s p + i))))
 
+  -- a claim about values, shown of the item at the place of number n, holds of what is said of number n
+  pub item-view :
+      (P : ItemValues → Type 0) (n : ℕ) → ((p : ℕ) → nth (items s) n ≡ At p → P (itemValues s (itemAt k s (pool k s) p)))
+      → (v : ItemValues) → itemSaid s (itemNumbered k s n) ≡ says v → P v
+  unfolding itemNumbered
+  item-view P n h v said = go (nth (items s) n) refl (ap (λ j. itemSaid s (itemIf k s n j)) (sym e) ∙ said)
+    where
+      go : (f : Found) → nth (items s) n ≡ f → itemSaid s (numbered k s f) ≡ says v → P v
+      go (At p) d t = subst P (said-value (itemValues s (itemAt k s (pool k s) p)) v t) (h p d)
+      go Nothing d t = absurd (refused-unsaid 42 0 v t)
+
   -- what holds of the references of each known item holds of those of each item that is shown
   item-each :
       (P : ℕ → ℕ → ReferenceValue → Type 0) → All (Claimed P) (items s)
       → (n : ℕ) (v : ItemValues) → itemSaid s (itemNumbered k s n) ≡ says v → EachIndexed (P (v .place)) (v .fields)
-  unfolding itemNumbered itemAt
-  item-each P all n v said = go (nth (items s) n) refl (ap (λ j. itemSaid s (itemIf k s n j)) (sym e) ∙ said)
+  unfolding itemAt
+  item-each P all n =
+      item-view (λ w. EachIndexed (P (w .place)) (w .fields)) n (λ p d. shown p (listed k (Tag (byte s p))) refl d)
     where
       shown : (p : ℕ) (b : Bool) → listed k (Tag (byte s p)) ≡ b → nth (items s) n ≡ At p
           → EachIndexed (P p) (fieldValues s (cond b (fieldsAt s (pool k s) (shapeOf (byte s p)) p) Item.NotKnown))
@@ -164,12 +174,6 @@ module _ (k : Kinds) (s : List ℕ) (c : ℕ) (e : judged k s ≡ Accepted c) wh
           fields-each s (pool k s) (P p) p (shapeOf (byte s p))
           (nth-all (Claimed P) (items s) n p all d l)
       shown p false l d = tt
-
-      go : (f : Found) → nth (items s) n ≡ f → itemSaid s (numbered k s f) ≡ says v → EachIndexed (P (v .place)) (v .fields)
-      go (At p) d h =
-          subst (λ (w : ItemValues). EachIndexed (P (w .place)) (w .fields)) (said-value (itemValues s (itemAt k s (pool k s) p)) v h)
-          (shown p (listed k (Tag (byte s p))) refl d)
-      go Nothing d h = absurd (refused-unsaid 42 0 v h)
 
   -- with 01 on the list, each reference is the text whose number its index byte holds
   pub item-text :
@@ -227,17 +231,30 @@ module _ (k : Kinds) (s : List ℕ) (c : ℕ) (e : judged k s ≡ Accepted c) wh
               (subst (λ (tag : ℕ). 0 < indexCount (shapeOf tag)) (sym (h .1)) (omega arith))),
         )
 
-    -- with 01 on the list and enough room in the buffer, the name is that text: its length, and the text at the front of the buffer
-    pub name-is-text :
-        listed k (Tag 0x01) ≡ true → (buffer : List ℕ)
+    -- with 01 on the list, the name is that text, by whether the buffer has room for it
+    name-by-room :
+        listed k (Tag 0x01) ≡ true → (buffer : List ℕ) (b : Bool)
         → let name : List ℕ = getD (texts s (pool k s)) (byte s (dataAt s p)) [] in
-        length name ≤ length buffer → nameOf k s buffer ≡ (NameAnswer.Length (length name), name ++ drop (length name) buffer)
+        leb (length name) (length buffer) ≡ b
+        → nameOf k s buffer ≡ cond b (NameAnswer.Length (length name), name ++ drop (length name) buffer) (NameAnswer.Refused (refusedWith 43), buffer)
     unfolding nameOf
-    name-is-text on buffer room =
+    name-by-room on buffer b room =
         let found = serial-text on in
         let r = reference-text s (pool k s) (byte s (dataAt s p)) (found .1) in
         let long : r .span .length ≡ length (getD (texts s (pool k s)) (byte s (dataAt s p)) []) =
         sym (length-tab (λ i. letter (byte s (r .span .place + i))) (r .span .length)) ∙ ap length (r .spells) in
         ap (nameIf k s buffer) e ∙ ap (nameAt k s buffer) one ∙ ap (copied s buffer) (found .0 ∙ r .found)
-        ∙ copied-whole s buffer (r .span) (omega (arith, long, room))
-        ∙ λ i. (NameAnswer.Length (long i), r .spells i ++ drop (long i) buffer)
+        ∙ λ i. cond ((ap (λ (n : ℕ). leb n (length buffer)) long ∙ room) i) (NameAnswer.Length (long i), r .spells i ++ drop (long i) buffer) (NameAnswer.Refused (refusedWith 43), buffer)
+
+    -- enough room: its length, and the text at the front of the buffer
+    pub name-is-text :
+        listed k (Tag 0x01) ≡ true → (buffer : List ℕ)
+        → let name : List ℕ = getD (texts s (pool k s)) (byte s (dataAt s p)) [] in
+        length name ≤ length buffer → nameOf k s buffer ≡ (NameAnswer.Length (length name), name ++ drop (length name) buffer)
+    name-is-text on buffer room = name-by-room on buffer true (le-leb _ (length buffer) room)
+
+    -- not enough: 43, and the buffer as it was
+    pub name-too-long :
+        listed k (Tag 0x01) ≡ true → (buffer : List ℕ)
+        → length buffer < length (getD (texts s (pool k s)) (byte s (dataAt s p)) []) → nameOf k s buffer ≡ (NameAnswer.Refused (refusedWith 43), buffer)
+    name-too-long on buffer short = name-by-room on buffer false (lt-leb _ (length buffer) short)

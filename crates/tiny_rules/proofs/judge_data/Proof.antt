@@ -1,48 +1,42 @@
 -- `judge_data` meets its contract: at each return, what the rules up to it found. Assumes nothing.
 use mathlib.Core.Path.{_≡_, sym, _∙_}
-use native.Mathlib.Omega.{arith}
 use borrow.Author.Needs.{needs}
 use Rattle.chain.specs.declared.Found.the-variants.{At, Nothing}
 use Rattle.tiny_rules.proofs.judge_data.Statement.{statement}
 use Rattle.tiny_rules.specs.Rules.{rule9, rule10, rule11}
 use Rattle.tiny_rules.proofs.judge_data.Tie as tie
 
-pool-of-requires : tie.Need-pool-of-requires
-pool-of-requires c κs = omega arith
-
-first-unfit-requires : tie.Need-first-unfit-requires
-first-unfit-requires c κs = omega arith
+bad-pool-requires : tie.Need-bad-pool-requires
+bad-pool-requires c κs = search needs
 
 enum-known-p : tie.Need-enum-known-p
 enum-known-p c = search needs
 
 refused-requires : tie.Need-refused-requires
-refused-requires c κs = omega arith
+refused-requires c κs = search needs
 
 returns : tie.Need-returns
-unfolding rule9
 returns c =
-    let a = c .before .before .before .before .before .before .before .args in
-    let f9 : rule9 (a .kinds) (a .image .now) ≡ At (c .before .before .p .given .0 .0) = sym (rw (c .before .before .before .before .before .pool-of .ensures) at (c .before .before .before .before .first-unfit .ensures)) ∙ c .before .before .p .given .1 in
+    let a = c .before .before .before .before .before .before .args in
+    let f9 : rule9 (a .kinds) (a .image .now) ≡ At (c .before .before .p .given .0 .0) = sym (c .before .before .before .before .bad-pool .ensures) ∙ c .before .before .p .given .1 in
     simp (f9, c .refused .ensures)
 
 enum-told : tie.Need-enum-told
 enum-told c = search needs
 
 bad-reference-requires : tie.Need-bad-reference-requires
-bad-reference-requires c κs = omega arith
+bad-reference-requires c κs = search needs
 
 enum-known-p-2 : tie.Need-enum-known-p-2
 enum-known-p-2 c = search needs
 
 refused-requires-2 : tie.Need-refused-requires-2
-refused-requires-2 c κs = omega arith
+refused-requires-2 c κs = search needs
 
 returns-2 : tie.Need-returns-2
-unfolding rule9
 returns-2 c =
-    let a = c .before .before .before .before .before .before .before .before .before .before .args in
-    let f9 : rule9 (a .kinds) (a .image .now) ≡ Nothing = sym (rw (c .before .before .before .before .before .before .before .before .pool-of .ensures) at (c .before .before .before .before .before .before .before .first-unfit .ensures)) ∙ c .before .before .before .before .before .enum-told .given .1 in
+    let a = c .before .before .before .before .before .before .before .before .before .args in
+    let f9 : rule9 (a .kinds) (a .image .now) ≡ Nothing = sym (c .before .before .before .before .before .before .before .bad-pool .ensures) ∙ c .before .before .before .before .before .enum-told .given .1 in
     let f10 : rule10 (a .kinds) (a .image .now) ≡ At (c .before .before .p2 .given .0 .0) = sym (c .before .before .before .before .bad-reference .ensures) ∙ c .before .before .p2 .given .1 in
     simp (f9, f10, c .refused2 .ensures)
 
@@ -50,19 +44,19 @@ enum-told-2 : tie.Need-enum-told-2
 enum-told-2 c = search needs
 
 first-from-requires : tie.Need-first-from-requires
-first-from-requires c κs = omega arith
+first-from-requires c κs = search needs
 
 enum-known-p-3 : tie.Need-enum-known-p-3
 enum-known-p-3 c = search needs
 
 refused-requires-3 : tie.Need-refused-requires-3
-refused-requires-3 c κs = omega arith
+refused-requires-3 c κs = search needs
 
 returns-3 : tie.Need-returns-3
-unfolding rule9 rule11
+unfolding rule11
 returns-3 c =
-    let a = c .before .before .before .before .before .before .before .before .before .before .before .before .before .args in
-    let f9 : rule9 (a .kinds) (a .image .now) ≡ Nothing = sym (rw (c .before .before .before .before .before .before .before .before .before .before .before .pool-of .ensures) at (c .before .before .before .before .before .before .before .before .before .before .first-unfit .ensures)) ∙ c .before .before .before .before .before .before .before .before .enum-told .given .1 in
+    let a = c .before .before .before .before .before .before .before .before .before .before .before .before .args in
+    let f9 : rule9 (a .kinds) (a .image .now) ≡ Nothing = sym (c .before .before .before .before .before .before .before .before .before .before .bad-pool .ensures) ∙ c .before .before .before .before .before .before .before .before .enum-told .given .1 in
     let f10 : rule10 (a .kinds) (a .image .now) ≡ Nothing = sym (c .before .before .before .before .before .before .before .bad-reference .ensures) ∙ c .before .before .before .before .before .enum-told2 .given .1 in
     let f11 : rule11 (a .kinds) (a .image .now) ≡ At (c .before .before .p3 .given .0 .0) = sym (c .before .before .before .before .first-from .ensures) ∙ c .before .before .p3 .given .1 in
     simp (f9, f10, f11, c .refused3 .ensures)
@@ -71,13 +65,13 @@ enum-told-3 : tie.Need-enum-told-3
 enum-told-3 c = search needs
 
 item-count-requires : tie.Need-item-count-requires
-item-count-requires c κs = omega arith
+item-count-requires c κs = search needs
 
 returns-4 : tie.Need-returns-4
-unfolding rule9 rule11
+unfolding rule11
 returns-4 c =
-    let a = c .before .before .before .before .before .before .before .before .before .before .before .before .args in
-    let f9 : rule9 (a .kinds) (a .image .now) ≡ Nothing = sym (rw (c .before .before .before .before .before .before .before .before .before .before .pool-of .ensures) at (c .before .before .before .before .before .before .before .before .before .first-unfit .ensures)) ∙ c .before .before .before .before .before .before .before .enum-told .given .1 in
+    let a = c .before .before .before .before .before .before .before .before .before .before .before .args in
+    let f9 : rule9 (a .kinds) (a .image .now) ≡ Nothing = sym (c .before .before .before .before .before .before .before .before .before .bad-pool .ensures) ∙ c .before .before .before .before .before .before .before .enum-told .given .1 in
     let f10 : rule10 (a .kinds) (a .image .now) ≡ Nothing = sym (c .before .before .before .before .before .before .bad-reference .ensures) ∙ c .before .before .before .before .enum-told2 .given .1 in
     let f11 : rule11 (a .kinds) (a .image .now) ≡ Nothing = sym (c .before .before .before .first-from .ensures) ∙ c .before .enum-told3 .given .1 in
     simp (f9, f10, f11, c .item-count .ensures)
@@ -86,8 +80,7 @@ pub judge-data-spec : {M : Type 1} → statement M
 judge-data-spec =
     tie.close
     (tie.spec
-    pool-of-requires
-    first-unfit-requires
+    bad-pool-requires
     enum-known-p
     refused-requires
     returns

@@ -1,12 +1,12 @@
-use mathlib.Core.Path.{_≡_, subst}
 -- `crc::tables::double` meets its contract. The loop: the first r entries are doubled (`Doubled`).
 -- Assumes nothing.
+use Prim.Native.Nat.{ℕ, _-_, _≤_}
+use mathlib.Core.Path.{_≡_, subst}
 use native.Mathlib.Omega.{arith}
 use denote.Ref.{now}
-use Prim.Native.Nat.{ℕ, _-_, _≤_}
-use Rattle.crc.specs.Tables.{Doubled}
 use Rattle.crc.proofs.Doubling.{doubled-none, doubled-more}
 use Rattle.crc.proofs.tables.double.Statement.{statement}
+use Rattle.crc.specs.Tables.{Doubled}
 use Rattle.crc.proofs.tables.double.Tie as tie
 
 abbrev Inv-loop : tie.InvT-loop
