@@ -5,7 +5,7 @@ use octets::Span;
 use octets::byte_at;
 use octets::byte_from;
 ghost use mathlib.Core.Path.{_≡_};
-ghost use Prim.Native.Nat.{ℕ, _+_, _<_};
+ghost use Prim.Native.Nat.{_<_};
 ghost use lib.ListN.{length};
 ghost use Rattle.chain.specs.Chain.{chain};
 ghost use Rattle.chain.specs.Nth.{nth};

@@ -8,15 +8,11 @@ use verdict::Judged;
 use verdict::refused;
 ghost use mathlib.Core.Path.{_≡_};
 ghost use Prim.Native.Nat.{_≤_};
-ghost use mathlib.Core.List.{_∷_};
 ghost use lib.ListN.{length, drop};
-ghost use Rattle.chain.specs.Chain.{chain};
-ghost use Rattle.chain.specs.First.{first};
-ghost use Rattle.tiny_layout.specs.Layout.{total, checkPlace, next, items};
+ghost use Rattle.tiny_layout.specs.Layout.{checkPlace, items};
 ghost use Rattle.tiny_layout.specs.Pool.{pool};
 ghost use Rattle.tiny_rules.specs.Judged.{rules, judged};
 ghost use Rattle.tiny_rules.specs.Rules.{rule5, rule9, rule10};
-ghost use Rattle.tiny_rules.specs.Tests.{asked};
 ghost use Rattle.verdict.specs.Verdict.{answer};
 
 mod bytes;
