@@ -3,6 +3,7 @@ pub mod Major
 pub mod Items
 pub mod Answers
 pub mod Values
+pub mod Texts
 pub mod Cases
 pub mod Examples
 pub mod laws

@@ -4,5 +4,6 @@ pub mod Strings
 pub mod Serials
 pub mod Same
 pub mod Resolved
+pub mod Shown
 pub mod Exactly
 pub mod Front

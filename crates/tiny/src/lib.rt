@@ -14,6 +14,8 @@ use verdict::Judged;
 use verdict::Refusal;
 ghost use mathlib.Core.Path.{_≡_};
 ghost use Rattle.tiny.specs.Answers.{itemNumbered, stringNumbered, nameOf};
+ghost use Rattle.tiny.specs.Texts.{ShowsTexts, textNumbered};
+ghost use Rattle.tiny.specs.Values.{stringSaid};
 
 mod fields;
 mod serial;
@@ -89,6 +91,7 @@ pub enum NameAnswer {
 // The item of a number, counted from 0 in image order.
 pub fn item_numbered(image: &[u8], kinds: Kinds, number: usize) -> ItemAnswer
     ensures { λ r. ⌜ r ≡ itemNumbered kinds (now (image .entry)) number ⌝ }
+    ensures { λ r. ⌜ ShowsTexts kinds (now (image .entry)) r ⌝ }
 {
     let judgement = judge(image, kinds);
     match judgement {
@@ -108,6 +111,7 @@ pub fn item_numbered(image: &[u8], kinds: Kinds, number: usize) -> ItemAnswer
 // The string of a number in the listed pool; undecodable for every number where 01 is not on the list.
 pub fn string_numbered(image: &[u8], kinds: Kinds, number: usize) -> StringAnswer
     ensures { λ r. ⌜ r ≡ stringNumbered kinds (now (image .entry)) number ⌝ }
+    ensures { λ r. ⌜ stringSaid (now (image .entry)) r ≡ textNumbered kinds (now (image .entry)) number ⌝ }
 {
     let judgement = judge(image, kinds);
     match judgement {

@@ -6,6 +6,7 @@ use borrow.Author.Needs.{needs}
 use Rattle.tiny_layout.specs.laws.Layout.{item-within}
 use Rattle.tiny.proofs.item_numbered.Statement.{statement}
 use Rattle.tiny.specs.Answers.{itemNumbered}
+use Rattle.tiny.specs.laws.Shown.{item-told}
 use Rattle.tiny.proofs.item_numbered.Tie as tie
 
 judge-requires : tie.Need-judge-requires
@@ -28,7 +29,10 @@ enum-told-2 c = search needs
 
 returns : tie.Need-returns
 unfolding itemNumbered
-returns c = rw (sym (c .before .before .before .before .before .judge .ensures) ∙ c .before .before .before .enum-told .given .1, sym (c .before .before .item-place .ensures) ∙ c .enum-told2 .given .1)
+returns c =
+    let a = c .before .before .before .before .before .before .before .args in
+    item-told (a .kinds) (a .image .now) (a .number) _
+    (rw (sym (c .before .before .before .before .before .judge .ensures) ∙ c .before .before .before .enum-told .given .1, sym (c .before .before .item-place .ensures) ∙ c .enum-told2 .given .1))
 
 pool-of-requires : tie.Need-pool-of-requires
 pool-of-requires c κs = search needs
@@ -43,11 +47,17 @@ item-at-requires c κs = search needs
 
 returns-2 : tie.Need-returns-2
 unfolding itemNumbered
-returns-2 c = rw (sym (c .before .before .before .judge .ensures) ∙ c .before .judgement .given .1)
+returns-2 c =
+    let a = c .before .before .before .before .before .args in
+    item-told (a .kinds) (a .image .now) (a .number) _
+    (rw (sym (c .before .before .before .judge .ensures) ∙ c .before .judgement .given .1))
 
 returns-3 : tie.Need-returns-3
 unfolding itemNumbered
-returns-3 c = rw (sym (c .before .before .before .before .before .before .before .before .judge .ensures) ∙ c .before .before .before .before .before .before .enum-told .given .1, sym (c .before .before .before .before .before .item-place .ensures) ∙ c .before .before .before .at .given .1, c .item-at .ensures, c .before .pool-of .ensures)
+returns-3 c =
+    let a = c .before .before .before .before .before .before .before .before .before .before .args in
+    item-told (a .kinds) (a .image .now) (a .number) _
+    (rw (sym (c .before .before .before .before .before .before .before .before .judge .ensures) ∙ c .before .before .before .before .before .before .enum-told .given .1, sym (c .before .before .before .before .before .item-place .ensures) ∙ c .before .before .before .at .given .1, c .item-at .ensures, c .before .pool-of .ensures))
 
 pub item-numbered-spec : {M : Type 1} → statement M
 item-numbered-spec =

@@ -3,6 +3,7 @@ use mathlib.Core.Path.{sym, _∙_}
 use borrow.Author.Needs.{needs}
 use Rattle.tiny.proofs.string_numbered.Statement.{statement}
 use Rattle.tiny.specs.Answers.{stringNumbered}
+use Rattle.tiny.specs.laws.Shown.{string-told}
 use Rattle.tiny.proofs.string_numbered.Tie as tie
 
 judge-requires : tie.Need-judge-requires
@@ -31,22 +32,34 @@ enum-told-2 c = search needs
 
 returns : tie.Need-returns
 unfolding stringNumbered
-returns c = rw (sym (c .before .before .before .before .before .before .before .before .judge .ensures) ∙ c .before .before .before .before .before .before .enum-told .given .1, sym (c .before .before .before .before .before .has-tag .ensures) ∙ c .before .before .before .before .if1 .taken, rw (c .before .before .before .pool-of .ensures) at (sym (c .before .before .string-place .ensures) ∙ c .enum-told2 .given .1))
+returns c =
+    let a = c .before .before .before .before .before .before .before .before .before .before .args in
+    string-told (a .kinds) (a .image .now) (a .number) _
+    (rw (sym (c .before .before .before .before .before .before .before .before .judge .ensures) ∙ c .before .before .before .before .before .before .enum-told .given .1, sym (c .before .before .before .before .before .has-tag .ensures) ∙ c .before .before .before .before .if1 .taken, rw (c .before .before .before .pool-of .ensures) at (sym (c .before .before .string-place .ensures) ∙ c .enum-told2 .given .1)))
 
 string-at-requires : tie.Need-string-at-requires
 string-at-requires c κs = search needs
 
 returns-2 : tie.Need-returns-2
 unfolding stringNumbered
-returns-2 c = rw (sym (c .before .before .before .before .before .before .before .before .before .before .judge .ensures) ∙ c .before .before .before .before .before .before .before .before .enum-told .given .1, sym (c .before .before .before .before .before .before .before .has-tag .ensures) ∙ c .before .before .before .before .before .before .if1 .taken, rw (c .before .before .before .before .before .pool-of .ensures) at (sym (c .before .before .before .before .string-place .ensures) ∙ c .before .before .at .given .1), rw (c .before .before .before .before .before .pool-of .ensures) at (c .string-at .ensures))
+returns-2 c =
+    let a = c .before .before .before .before .before .before .before .before .before .before .before .before .args in
+    string-told (a .kinds) (a .image .now) (a .number) _
+    (rw (sym (c .before .before .before .before .before .before .before .before .before .before .judge .ensures) ∙ c .before .before .before .before .before .before .before .before .enum-told .given .1, sym (c .before .before .before .before .before .before .before .has-tag .ensures) ∙ c .before .before .before .before .before .before .if1 .taken, rw (c .before .before .before .before .before .pool-of .ensures) at (sym (c .before .before .before .before .string-place .ensures) ∙ c .before .before .at .given .1), rw (c .before .before .before .before .before .pool-of .ensures) at (c .string-at .ensures)))
 
 returns-3 : tie.Need-returns-3
 unfolding stringNumbered
-returns-3 c = rw (sym (c .before .before .before .judge .ensures) ∙ c .before .judgement .given .1)
+returns-3 c =
+    let a = c .before .before .before .before .before .args in
+    string-told (a .kinds) (a .image .now) (a .number) _
+    (rw (sym (c .before .before .before .judge .ensures) ∙ c .before .judgement .given .1))
 
 returns-4 : tie.Need-returns-4
 unfolding stringNumbered
-returns-4 c = rw (sym (c .before .before .before .before .judge .ensures) ∙ c .before .before .enum-told .given .1, sym (c .before .has-tag .ensures) ∙ c .if1 .left)
+returns-4 c =
+    let a = c .before .before .before .before .before .before .args in
+    string-told (a .kinds) (a .image .now) (a .number) _
+    (rw (sym (c .before .before .before .before .judge .ensures) ∙ c .before .before .enum-told .given .1, sym (c .before .has-tag .ensures) ∙ c .if1 .left))
 
 pub string-numbered-spec : {M : Type 1} → statement M
 string-numbered-spec =

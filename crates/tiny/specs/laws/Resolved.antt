@@ -37,6 +37,7 @@ use Rattle.tiny_rules.specs.Judged.{judged}
 use Rattle.tiny_rules.specs.laws.Accepted.{indexes-resolve}
 use Rattle.tiny.specs.Answers.{refusedWith, numbered, itemIf, itemNumbered, stringIf, stringNumbered, serials, serialOf, copied, nameAt, nameIf, nameOf}
 use Rattle.tiny.specs.Items.{identityAt, batchedAt, fieldsAt, itemAt}
+use Rattle.tiny.specs.Texts.{EachIndexed}
 use Rattle.tiny.specs.Values.{ReferenceValue, text, undecodable, FieldValues, ItemValues, referenceValue, fieldValues, itemValues, itemSaid, stringSaid}
 use Rattle.tiny.specs.declared.Item.{Item}
 use Rattle.tiny.specs.declared.NameAnswer.{NameAnswer}
@@ -72,7 +73,7 @@ module _ (s : List ℕ) (x : Pool) (n : ℕ) where
   reference-past h = ap (referenceAt s x) (nth-past (strings s x) n (omega (arith, texts-count s x)))
 
   -- the value of a resolved reference
-  value-text : n < length (texts s x) → referenceValue s (reference s x n) ≡ text (getD (texts s x) n [])
+  pub value-text : n < length (texts s x) → referenceValue s (reference s x n) ≡ text (getD (texts s x) n [])
   value-text h = let r = reference-text h in ap (referenceValue s) (r .found) ∙ ap text (r .spells)
 
 -- without 01 on the list every reference is undecodable
@@ -84,17 +85,7 @@ reference-unlisted k s off n = ap (λ (x : Pool). reference s x n) (no-pool k s 
 text-decodable : (t : List ℕ) → text t ≡ undecodable → ⊥
 text-decodable t e = let z : _≡_ {A = ℕ} 0 1 = cc in omega arith
 
--- ---- the references of an item's fields, each with the number of its index byte: 0 for the serial's, 1 for the part's
-abbrev pub EachIndexed : (ℕ → ReferenceValue → Type 0) → FieldValues → Type 0
-EachIndexed P (FieldValues.pool n p l) = Unit {0}
-EachIndexed P (FieldValues.serial r) = P 0 r
-EachIndexed P (FieldValues.flags b) = Unit {0}
-EachIndexed P (FieldValues.address bytes) = Unit {0}
-EachIndexed P (FieldValues.identity x) = P 0 (x .serial) × P 1 (x .part)
-EachIndexed P (FieldValues.batched x b) = P 0 (x .serial) × P 1 (x .part)
-EachIndexed P FieldValues.notKnown = Unit {0}
-
--- the same without that number
+-- ---- the references of an item's fields
 abbrev pub EachReference : (ReferenceValue → Type 0) → FieldValues → Type 0
 EachReference P = EachIndexed (λ i. P)
 
@@ -111,7 +102,7 @@ each-map P Q f (FieldValues.batched x b) h = (f 0 (x .serial) (h .0), f 1 (x .pa
 each-map P Q f FieldValues.notKnown h = tt
 
 -- what holds of the reference at each index byte of the item at p holds of each reference of its fields
-fields-each :
+pub fields-each :
     (s : List ℕ) (x : Pool) (P : ℕ → ReferenceValue → Type 0) (p : ℕ) (a : Shape)
     → ((i : ℕ) → i < indexCount a → P i (referenceValue s (reference s x (byte s (dataAt s p + i)))))
     → EachIndexed P (fieldValues s (fieldsAt s x a p))
