@@ -8,6 +8,7 @@ use Rattle.chain.specs.Fill.{tab, filled}
 use Rattle.chain.specs.First.{when, first}
 use Rattle.chain.specs.Keep.{keep, only}
 use Rattle.chain.specs.Nth.{nth}
+use Rattle.chain.specs.Number.{numberFrom, numberOf}
 use Rattle.chain.specs.declared.Found.the-variants.{At, Nothing}
 
 -- items of two bytes from place 1 on: the last one may pass the end, and none starts there
@@ -38,6 +39,15 @@ third = refl
 past-the-last : nth (range 2 5) 3 ≡ Nothing
 unfolding visit chain nth
 past-the-last = refl
+
+-- the number of the first that passes, counted from 0
+second-passes : numberOf (leb 3) (range 2 7) ≡ At 1
+unfolding visit chain numberFrom
+second-passes = refl
+
+none-passes : numberOf (leb 9) (range 2 7) ≡ Nothing
+unfolding visit chain numberFrom
+none-passes = refl
 
 kept : keep (leb 4) (range 2 7) ≡ 4 ∷ 5 ∷ 6 ∷ []
 unfolding visit chain keep

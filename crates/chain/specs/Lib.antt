@@ -3,6 +3,7 @@ pub mod Chain
 pub mod First
 pub mod Nth
 pub mod Keep
+pub mod Number
 pub mod All
 pub mod Fill
 pub mod Examples

@@ -9,6 +9,7 @@ pub mod First
 pub mod Loops
 pub mod Nth
 pub mod Keep
+pub mod Number
 pub mod Ranges
 pub mod Smallest
 pub mod Steps

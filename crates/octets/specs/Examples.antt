@@ -1,5 +1,5 @@
--- What the definitions give on small examples, by computation: numbers, runs, and labels good and bad. Assumes nothing.
-use Prim.Native.Nat.{ℕ}
+-- What the definitions give on small examples, by computation: numbers, runs, bytes put, items cut, and labels good and bad. Assumes nothing.
+use Prim.Native.Nat.{ℕ, _+_}
 use mathlib.Core.Bool.{true}
 use mathlib.Core.List.{List, [], _∷_, _++_}
 use mathlib.Core.Path.{_≡_, refl}
@@ -8,8 +8,10 @@ use Rattle.chain.specs.Chain.{visit, chain}
 use Rattle.chain.specs.Fill.{tab}
 use Rattle.chain.specs.First.{first}
 use Rattle.chain.specs.declared.Found.the-variants.{At, Nothing}
-use Rattle.octets.specs.Bytes.{le16, le32}
+use Rattle.octets.specs.Bytes.{byte, le16, le32}
+use Rattle.octets.specs.Cut.{cut}
 use Rattle.octets.specs.Label.{isText, isLabelText, textEnd, badLabel}
+use Rattle.octets.specs.Put.{put}
 use Rattle.octets.specs.Runs.{difference, sameRun, nonzero}
 
 -- the first byte is the lowest; past the end a byte reads as 0
@@ -28,6 +30,40 @@ differing = refl
 alike : sameRun (1 ∷ 2 ∷ 3 ∷ 4 ∷ []) 0 (0 ∷ 1 ∷ 2 ∷ 9 ∷ []) 1 2 ≡ true
 unfolding sameRun difference first chain visit
 alike = refl
+
+-- bytes that fit in the middle, and exactly; bytes that do not fit: nothing changes
+put-middle : put (8 ∷ 9 ∷ []) 1 (1 ∷ 2 ∷ 3 ∷ 4 ∷ []) ≡ 1 ∷ 8 ∷ 9 ∷ 4 ∷ []
+unfolding put
+put-middle = refl
+
+put-last : put (8 ∷ 9 ∷ []) 2 (1 ∷ 2 ∷ 3 ∷ 4 ∷ []) ≡ 1 ∷ 2 ∷ 8 ∷ 9 ∷ []
+unfolding put
+put-last = refl
+
+put-past : put (8 ∷ 9 ∷ []) 3 (1 ∷ 2 ∷ 3 ∷ 4 ∷ []) ≡ 1 ∷ 2 ∷ 3 ∷ 4 ∷ []
+unfolding put
+put-past = refl
+
+-- items whose first byte says how many follow it
+abbrev counted : List ℕ → ℕ → ℕ
+counted s p = 1 + byte s p
+
+abbrev three : List ℕ
+three = 0x01 ∷ 0xAA ∷ 0x00 ∷ 0x02 ∷ 0xBB ∷ 0xCC ∷ []
+
+cut-all : cut counted three 6 0 ≡ (0x01 ∷ 0xAA ∷ []) ∷ (0x00 ∷ []) ∷ (0x02 ∷ 0xBB ∷ 0xCC ∷ []) ∷ []
+unfolding chain visit tab
+cut-all = refl
+
+-- from the second item on, up to an end before the third
+cut-part : cut counted three 3 2 ≡ (0x00 ∷ []) ∷ []
+unfolding chain visit tab
+cut-part = refl
+
+-- the last item passes the list's end: its bytes there read as 0
+cut-short : cut counted (0x00 ∷ 0x02 ∷ 0xBB ∷ []) 3 0 ≡ (0x00 ∷ []) ∷ (0x02 ∷ 0xBB ∷ 0x00 ∷ []) ∷ []
+unfolding chain visit tab
+cut-short = refl
 
 -- "top1"
 abbrev top1 : List ℕ

@@ -6,3 +6,5 @@ pub mod Label
 pub mod LabelGood
 pub mod LabelBad
 pub mod Same
+pub mod Cut
+pub mod Put

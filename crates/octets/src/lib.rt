@@ -1,9 +1,10 @@
-// Bytes of an image: numbers and runs of bytes at a place, text, and labels.
+// Bytes of an image: numbers and runs of bytes at a place, text, labels, and bytes put into a buffer.
 // Every function is total: a byte past the end of the image reads as 0, so that no caller owes a bound.
 use chain::Found;
 ghost use mathlib.Core.Path.{_≡_};
 ghost use Prim.Native.Nat.{_+_};
 ghost use Rattle.octets.specs.Bytes.{byte, le16, le32, le64};
+ghost use Rattle.octets.specs.Put.{put};
 ghost use Rattle.octets.specs.Runs.{sixAt, eightAt, sixteenAt, difference, sameRun, nonzero};
 
 pub mod label;
@@ -204,4 +205,19 @@ pub fn first_nonzero(s: &[u8], at: usize, from: usize, to: usize) -> Found
         i += 1;
     }
     Found::Nothing
+}
+
+// These bytes into a lent buffer from a place on; where they do not fit, nothing changes.
+pub fn put_at(bytes: &[u8], at: usize, buffer: &mut [u8])
+    ensures { λ r. ⌜ now (buffer .exit) ≡ put (now (bytes .entry)) at (now (buffer .entry)) ⌝ }
+{
+    if at <= buffer.len() {
+        if bytes.len() <= buffer.len() - at {
+            let mut i = 0;
+            while i < bytes.len() {
+                buffer[at + i] = bytes[i];
+                i += 1;
+            }
+        }
+    }
 }

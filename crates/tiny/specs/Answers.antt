@@ -1,9 +1,9 @@
 -- What a reader answers for an item by number, for a string by number, and for the name; of the name also what the lent buffer then holds.
 -- The order everywhere: the image's own refusal, then 42, 44, 43. Assumes nothing.
 use Prim.Native.Nat.{ℕ}
-use mathlib.Core.Bool.{Bool, cond, _&&_}
+use mathlib.Core.Bool.{Bool, cond}
 use mathlib.Core.List.{List, _++_}
-use lib.Dec.{eqb, leb}
+use lib.Dec.{leb}
 use lib.ListN.{length, drop}
 use Rattle.chain.specs.Keep.{keep, only}
 use Rattle.chain.specs.Nth.{nth}
@@ -12,7 +12,6 @@ use Rattle.chain.specs.declared.Found.the-variants.{At, Nothing}
 use Rattle.kinds.specs.Kinds.{listed}
 use Rattle.kinds.specs.declared.Kind.the-variants.{Tag}
 use Rattle.kinds.specs.declared.Kinds.{Kinds}
-use Rattle.octets.specs.Bytes.{byte}
 use Rattle.tiny_layout.specs.Layout.{items}
 use Rattle.tiny_layout.specs.Pool.{isOf, pool}
 use Rattle.tiny_layout.specs.Strings.{strings, spanAt, textOf}

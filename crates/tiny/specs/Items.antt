@@ -4,8 +4,6 @@ use mathlib.Core.Bool.{cond}
 use mathlib.Core.List.{List}
 use lib.ListN.{length}
 use Rattle.chain.specs.declared.Found.the-variants.{At}
-use Rattle.kinds.specs.Kinds.{listed}
-use Rattle.kinds.specs.declared.Kind.the-variants.{Tag}
 use Rattle.kinds.specs.declared.Kinds.{Kinds}
 use Rattle.octets.specs.Bytes.{byte, le16}
 use Rattle.octets.specs.Runs.{sixAt}

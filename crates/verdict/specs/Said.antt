@@ -2,6 +2,7 @@
 use Prim.Native.Nat.{ℕ}
 use Rattle.verdict.specs.declared.Judged.{Judged}
 use Rattle.verdict.specs.declared.Judged.the-variants.{Accepted, Refused}
+use Rattle.verdict.specs.declared.WriteAnswer.{WriteAnswer}
 
 pub data Said (A : Type 0) : Type 0 where
   says : A → Said A
@@ -21,3 +22,8 @@ fields (refused n p) = record { number = n; place = p; value = 0 }
 abbrev pub judgedSaid : Judged → Said ℕ
 judgedSaid (Accepted n) = says n
 judgedSaid (Refused r) = refused (r .number) (r .place)
+
+-- what a writer says: the image's length
+abbrev pub writeSaid : WriteAnswer → Said ℕ
+writeSaid (WriteAnswer.Length n) = says n
+writeSaid (WriteAnswer.Refused r) = refused (r .number) (r .place)

@@ -20,6 +20,15 @@ module _ {A : Type 0} where
   all-both P Q R f [] a b = tt
   all-both P Q R f (x ∷ xs) a b = (f x (a .0) (b .0), all-both P Q R f xs (a .1) (b .1))
 
+  pub all-append : (P : A → Type 0) (l m : List A) → All P l → All P m → All P (l ++ m)
+  all-append P [] m a b = b
+  all-append P (x ∷ xs) m a b = (a .0, all-append P xs m (a .1) b)
+
+  -- each element of a mapped list
+  pub all-mapped : {B : Type 0} (P : B → Type 0) (f : A → B) (l : List A) → All (λ x. P (f x)) l → All P (map f l)
+  all-mapped P f [] a = tt
+  all-mapped P f (x ∷ xs) a = (a .0, all-mapped P f xs (a .1))
+
   pub all-split : (P : A → Type 0) (xs : List A) (y : A) (ys : List A) → All P (xs ++ (y ∷ ys)) → P y
   all-split P [] y ys a = a .0
   all-split P (x ∷ xs) y ys a = all-split P xs y ys (a .1)
@@ -33,6 +42,11 @@ module _ {A : Type 0} where
   pub map-agree : {B : Type 0} (f g : A → B) (l : List A) → All (λ x. f x ≡ g x) l → map f l ≡ map g l
   map-agree f g [] a = refl
   map-agree {B} f g (x ∷ xs) a = ap₂ (λ (y : B) (ys : List B). y ∷ ys) (a .0) (map-agree f g xs (a .1))
+
+  -- a function that undoes the other along the list
+  pub map-undone : {B : Type 0} (f : A → B) (g : B → A) (l : List A) → All (λ x. g (f x) ≡ x) l → map g (map f l) ≡ l
+  map-undone f g [] a = refl
+  map-undone f g (x ∷ xs) a = ap₂ (λ (y : A) (ys : List A). y ∷ ys) (a .0) (map-undone f g xs (a .1))
 
   -- the element at a number that the list has
   pub map-getD : {B : Type 0} (f : A → B) (l : List A) (n : ℕ) (a : A) (b : B) → n < length l → getD (map f l) n b ≡ f (getD l n a)

@@ -1,8 +1,9 @@
 -- The laws of `tab` and of a buffer that is filled from the front by a loop. Assumes nothing.
 use Prim.Native.Nat.{ℕ, zero, suc, _+_, _-_, _≤_, _<_}
-use mathlib.Core.List.{List, [], _∷_, _++_, append-assoc}
+use mathlib.Core.List.{List, [], _∷_, _++_, append-nil, append-assoc}
 use mathlib.Core.Logic.{inl, inr}
 use mathlib.Core.Path.{_≡_, refl, sym, ap, ap₂, _∙_}
+use native.Mathlib.Nat.{add-zero, add-suc}
 use native.Mathlib.Numerals.{add-one}
 use native.Mathlib.Omega.{arith}
 use lib.ListN.{length, getD, drop, set, length-append, length-drop, List·getD-append}
@@ -42,6 +43,14 @@ module _ {A : Type 0} where
   tab-from f p n =
       tab-front (λ i. f (p + i)) n
       ∙ ap₂ (λ (x : A) (l : List A). x ∷ l) (ap f (omega arith)) (tab-agree (λ i. f (p + suc i)) (λ i. f (p + 1 + i)) n (λ i h. ap f (omega arith)))
+
+  -- m + n values: m, and n from there on
+  pub tab-append : (f : ℕ → A) (m n : ℕ) → tab f (m + n) ≡ tab f m ++ tab (λ i. f (m + i)) n
+  unfolding tab
+  tab-append f m zero = rw add-zero (sym (append-nil (tab f m)))
+  tab-append f m (suc n) =
+      rw add-suc
+      (ap (λ (l : List A). l ++ (f (m + n) ∷ [])) (tab-append f m n) ∙ append-assoc (tab f m) (tab (λ i. f (m + i)) n) (f (m + n) ∷ []))
 
   pub filled-agree : (f g : ℕ → A) (n : ℕ) (b : List A) → ((i : ℕ) → i < n → f i ≡ g i) → filled f n b ≡ filled g n b
   unfolding filled

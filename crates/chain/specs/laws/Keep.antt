@@ -1,8 +1,8 @@
--- The laws of the places that pass a test and of the only one of them. Along a chain two searches tell the only one: the first place that
+-- The laws of the elements that pass a test and of the only place among them. Along a chain two searches tell the only one: the first place that
 -- passes, and the first after that one. Assumes nothing.
 use Prim.Native.Nat.{ℕ, _<_}
 use mathlib.Core.Bool.{Bool, true, false, cond}
-use mathlib.Core.List.{List, [], _∷_}
+use mathlib.Core.List.{List, [], _∷_, _++_, append-nil}
 use mathlib.Core.Path.{_≡_, refl, sym, ap, _∙_}
 use Rattle.chain.specs.All.{All}
 use Rattle.chain.specs.Chain.{chain}
@@ -15,27 +15,50 @@ use Rattle.chain.specs.laws.Chain.{chain-more, chain-ind}
 use Rattle.chain.specs.laws.First.{at-nothing, when-nothing, first-all}
 use Rattle.chain.specs.laws.Loops.{search-end, search-more}
 
--- two tests that agree along the list keep the same
-pub keep-agree : (f g : ℕ → Bool) (l : List ℕ) → All (λ x. f x ≡ g x) l → keep f l ≡ keep g l
-unfolding keep
-keep-agree f g [] a = refl
-keep-agree f g (x ∷ xs) a = rw (a .0, keep-agree f g xs (a .1))
+module _ {A : Type 0} where
+  -- two tests that agree along the list keep the same
+  pub keep-agree : (f g : A → Bool) (l : List A) → All (λ x. f x ≡ g x) l → keep f l ≡ keep g l
+  unfolding keep
+  keep-agree f g [] a = refl
+  keep-agree f g (x ∷ xs) a = rw (a .0, keep-agree f g xs (a .1))
 
--- a test that no place of the list passes keeps none
-pub keep-none : (test : ℕ → Bool) (l : List ℕ) → All (λ x. test x ≡ false) l → keep test l ≡ []
-unfolding keep
-keep-none test [] a = refl
-keep-none test (x ∷ xs) a = rw (a .0, keep-none test xs (a .1))
+  -- a test that no element of the list passes keeps none
+  pub keep-none : (test : A → Bool) (l : List A) → All (λ x. test x ≡ false) l → keep test l ≡ []
+  unfolding keep
+  keep-none test [] a = refl
+  keep-none test (x ∷ xs) a = rw (a .0, keep-none test xs (a .1))
 
--- what is kept passes the test, and what holds of all places holds of it
-pub keep-all : (P : ℕ → Type 0) (test : ℕ → Bool) (l : List ℕ) → All P l → All (λ x. (test x ≡ true) × P x) (keep test l)
-unfolding keep
-keep-all P test [] a = tt
-keep-all P test (x ∷ xs) a = go (test x) refl (keep-all P test xs (a .1))
-  where
-    go : (b : Bool) → test x ≡ b → All (λ x. (test x ≡ true) × P x) (keep test xs) → All (λ x. (test x ≡ true) × P x) (cond b (x ∷ keep test xs) (keep test xs))
-    go true e more = ((e, a .0), more)
-    go false e more = more
+  -- a test that each element passes keeps all
+  pub keep-every : (test : A → Bool) (l : List A) → All (λ x. test x ≡ true) l → keep test l ≡ l
+  unfolding keep
+  keep-every test [] a = refl
+  keep-every test (x ∷ xs) a = rw (a .0, keep-every test xs (a .1))
+
+  pub keep-append : (test : A → Bool) (l m : List A) → keep test (l ++ m) ≡ keep test l ++ keep test m
+  unfolding keep
+  keep-append test [] m = refl
+  keep-append test (x ∷ xs) m = go (test x) (keep-append test xs m)
+    where
+      go : (b : Bool) → keep test (xs ++ m) ≡ keep test xs ++ keep test m → cond b (x ∷ keep test (xs ++ m)) (keep test (xs ++ m)) ≡ cond b (x ∷ keep test xs) (keep test xs) ++ keep test m
+      go true e = ap (λ (k : List A). x ∷ k) e
+      go false e = e
+
+  -- a test that the elements of one part pass and those of the other do not keeps that part
+  pub keep-front : (test : A → Bool) (l m : List A) → All (λ x. test x ≡ true) l → All (λ x. test x ≡ false) m → keep test (l ++ m) ≡ l
+  keep-front test l m a b = keep-append test l m ∙ rw (keep-every test l a, keep-none test m b, append-nil l)
+
+  pub keep-back : (test : A → Bool) (l m : List A) → All (λ x. test x ≡ false) l → All (λ x. test x ≡ true) m → keep test (l ++ m) ≡ m
+  keep-back test l m a b = keep-append test l m ∙ rw (keep-none test l a, keep-every test m b)
+
+  -- what is kept passes the test, and what holds of all elements holds of it
+  pub keep-all : (P : A → Type 0) (test : A → Bool) (l : List A) → All P l → All (λ x. (test x ≡ true) × P x) (keep test l)
+  unfolding keep
+  keep-all P test [] a = tt
+  keep-all P test (x ∷ xs) a = go (test x) refl (keep-all P test xs (a .1))
+    where
+      go : (b : Bool) → test x ≡ b → All (λ x. (test x ≡ true) × P x) (keep test xs) → All (λ x. (test x ≡ true) × P x) (cond b (x ∷ keep test xs) (keep test xs))
+      go true e more = ((e, a .0), more)
+      go false e more = more
 
 -- what holds of all places holds of the only one
 pub only-all : (P : ℕ → Type 0) (l : List ℕ) (p : ℕ) → All P l → only l ≡ At p → P p

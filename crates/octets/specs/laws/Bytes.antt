@@ -1,14 +1,15 @@
 -- Bytes past the end, runs of bytes, and the bounds of the numbers they spell. Assumes nothing.
-use Prim.Native.Nat.{ℕ, zero, suc, _+_, _^_, _≤_, _<_}
-use mathlib.Core.List.{List, [], _∷_}
+use Prim.Native.Nat.{ℕ, zero, suc, _+_, _-_, _^_, _≤_, _<_}
+use mathlib.Core.List.{List, [], _∷_, _++_}
 use mathlib.Core.Logic.{inl, inr}
-use mathlib.Core.Path.{_≡_, sym, _∙_}
+use mathlib.Core.Path.{_≡_, sym, ap, _∙_}
 use native.Mathlib.Nat.{pow-suc}
 use native.Mathlib.Omega.{arith}
-use lib.ListN.{length, take, drop, length-take, length-drop, List·getD-eq-default}
-use lib.Seq.{getD-take, getD-drop, ext-getD}
+use lib.ListN.{length, take, drop, length-append, length-take, length-drop, List·getD-eq-default}
+use lib.Seq.{take-length, take-append-seam, drop-append-seam, getD-take, getD-drop, ext-getD}
+use Rattle.chain.specs.All.{All}
 use Rattle.chain.specs.laws.Below.{below}
-use Rattle.chain.specs.laws.Fill.{length-tab, getD-tab}
+use Rattle.chain.specs.laws.Fill.{length-tab, getD-tab, tab-agree, tab-append}
 use Rattle.octets.specs.Bytes.{byte, Octets, run, little, le16, le32, le64}
 
 pub byte-past : (s : List ℕ) (p : ℕ) → length s ≤ p → byte s p ≡ 0
@@ -17,6 +18,12 @@ byte-past s p h = List·getD-eq-default s 0 h
 -- a byte that is not zero lies within
 pub byte-within : (s : List ℕ) (p : ℕ) → 0 < byte s p → p < length s
 byte-within s p h = elim (below p (length s)) [ inl k ↦ k | inr k ↦ absurd (omega (arith, byte-past s p k)) ]
+
+-- a list of which each element is a byte
+pub all-octets : (l : List ℕ) → All (λ b. b < 256) l → Octets l
+all-octets [] a p = omega arith
+all-octets (b ∷ bs) a zero = a .0
+all-octets (b ∷ bs) a (suc p) = all-octets bs (a .1) p
 
 pub length-run : (s : List ℕ) (p n : ℕ) → length (run s p n) ≡ n
 length-run s p n = length-tab (λ i. byte s (p + i)) n
@@ -49,6 +56,28 @@ run-part s p n h =
     (λ i k.
     let l : i < n = omega (arith, length-run s p n) in
     byte-run s p n i l ∙ sym (getD-take n (drop p s) i 0 l ∙ getD-drop p s i 0))
+
+-- a run of m + n bytes: m of them, and n from there on
+pub run-append : (s : List ℕ) (p m n : ℕ) → run s p (m + n) ≡ run s p m ++ run s (p + m) n
+run-append s p m n =
+    tab-append (λ i. byte s (p + i)) m n
+    ∙ ap (λ (l : List ℕ). run s p m ++ l) (tab-agree (λ i. byte s (p + (m + i))) (λ i. byte s (p + m + i)) n (λ i h. ap (byte s) (omega arith)))
+
+-- the run of all the bytes
+pub run-all : (s : List ℕ) → run s 0 (length s) ≡ s
+run-all s = run-part s 0 (length s) (omega arith) ∙ take-length s
+
+-- the run of the bytes x between others
+pub run-between : (a x b : List ℕ) → run (a ++ (x ++ b)) (length a) (length x) ≡ x
+run-between a x b =
+    run-part (a ++ (x ++ b)) (length a) (length x) (simp length-append (omega arith))
+    ∙ ap (take (length x)) (drop-append-seam a (x ++ b)) ∙ take-append-seam x b
+
+-- a part from place p up to `end`
+pub part-run : (s : List ℕ) (p n end : ℕ) → end ≡ p + n → end ≤ length s → take (end - p) (drop p s) ≡ run s p n
+part-run s p n end e h =
+    let d : end - p ≡ n = omega arith in
+    rw d (sym (run-part s p n (omega arith)))
 
 -- n bytes spell a number below 256 ^ n
 pub little-below : (l : List ℕ) → Octets l → little l < 256 ^ length l
