@@ -1,18 +1,11 @@
 // Prints check values, one to a line. The file stdout beside it has what they must be: values of published catalogues, the check bytes of
 // the build paper's images, and for the pattern those of another program (zlib, and a bitwise CRC-8).
+use console::digit;
+use console::put;
 use crc::crc8;
 use crc::crc32;
-use libc::STDOUT_FILENO;
-ghost use Prim.Native.Nat.{_≤_, _<_};
+ghost use Prim.Native.Nat.{_≤_};
 ghost use lib.ListN.{length};
-
-// The hexadecimal digit of n.
-fn digit(n: u32) -> u8
-    requires { ⌜ n < 16 ⌝ }
-{
-    let d = n as u8;
-    if d < 10 { d + 48 } else { d + 55 }
-}
 
 // The last digits of x, as many as out has room for.
 fn hex(out: &mut [u8], x: u32) {
@@ -20,7 +13,7 @@ fn hex(out: &mut [u8], x: u32) {
     let mut i = out.len();
     while 0 < i {
         i -= 1;
-        out[i] = digit(y % 16);
+        out[i] = digit((y % 16) as u8);
         y /= 16;
     }
 }
@@ -28,10 +21,10 @@ fn hex(out: &mut [u8], x: u32) {
 // One line: the name of a case, a colon, and x in as many digits as out has room for.
 fn line(name: &[u8], out: &mut [u8], x: u32) {
     hex(out, x);
-    io::write_all(STDOUT_FILENO, name);
-    io::write_all(STDOUT_FILENO, b": ");
-    io::write_all(STDOUT_FILENO, out);
-    io::write_all(STDOUT_FILENO, b"\n");
+    put(name);
+    put(b": ");
+    put(out);
+    put(b"\n");
 }
 
 // A line with two digits, and one with eight.

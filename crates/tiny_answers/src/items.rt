@@ -1,9 +1,9 @@
 // Items by number.
-use super::text::put;
-use super::text::put_decimal;
-use super::text::put_hex;
 use super::text::put_refusal;
 use super::text::put_text;
+use console::put;
+use console::put_decimal;
+use console::put_hex;
 use kinds::Kinds;
 use octets::Six;
 use tiny::Identity;

@@ -1,11 +1,11 @@
 // Prints every answer of a reader, for a run of images on standard input, so that it can be held against another reader's.
 // tests/README.md has the form of the input and of the lines.
+use console::put;
+use console::put_decimal;
 use kinds::Kinds;
 use libc::STDIN_FILENO;
 use octets::byte_from;
 use octets::le16_at;
-use text::put;
-use text::put_decimal;
 use text::put_refusal;
 use tiny_rules::judge;
 use verdict::Judged;

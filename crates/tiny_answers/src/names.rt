@@ -1,8 +1,8 @@
 // The name, into buffers of several sizes.
-use super::text::put;
-use super::text::put_decimal;
-use super::text::put_hex;
 use super::text::put_refusal;
+use console::put;
+use console::put_decimal;
+use console::put_hex;
 use kinds::Kinds;
 use tiny::NameAnswer;
 use tiny::name;

@@ -1,8 +1,8 @@
 // Strings by number.
-use super::text::put;
-use super::text::put_decimal;
 use super::text::put_refusal;
 use super::text::put_text;
+use console::put;
+use console::put_decimal;
 use kinds::Kinds;
 use tiny::StringAnswer;
 use tiny::string_numbered;

@@ -1,10 +1,10 @@
 // The fields of an item, as text.
-use super::text::put;
 use super::text::put_character;
-use super::text::put_hex;
 use super::text::put_quoted;
 use super::text::put_text;
 use super::text::put_two;
+use console::put;
+use console::put_hex;
 use octets::Six;
 use tiny::Identity;
 use tiny::major_text;

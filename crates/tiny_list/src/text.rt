@@ -1,34 +1,12 @@
 // Pieces of text on standard output.
-use libc::STDOUT_FILENO;
+use console::digit;
+use console::put;
 use octets::Span;
 use octets::byte_from;
-ghost use Prim.Native.Nat.{_<_};
-
-// Bytes as they are.
-pub fn put(text: &[u8]) {
-    io::write_all(STDOUT_FILENO, text);
-}
-
-// A decimal number.
-pub fn put_decimal(n: usize) {
-    io::print_decimal(STDOUT_FILENO, n as u64);
-}
 
 // One character.
 pub fn put_character(c: u8) {
     put(&[c]);
-}
-
-// The digit of n below 16.
-fn digit(n: u8) -> u8
-    requires { ⌜ n < 16 ⌝ }
-{
-    if n < 10 { 0x30 + n } else { 0x37 + n }
-}
-
-// Two hexadecimal digits.
-pub fn put_hex(n: u8) {
-    put(&[digit(n / 16), digit(n % 16)]);
 }
 
 // The last two decimal digits.

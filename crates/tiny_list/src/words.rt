@@ -1,5 +1,5 @@
 // The rules in words.
-use super::text::put;
+use console::put;
 
 // The rule of a refusal number.
 pub fn put_rule(number: u8) {

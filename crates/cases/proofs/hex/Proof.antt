@@ -1,10 +1,9 @@
--- `cases::hex` is safe and ends. The loop: i is at most the length, which stays as it is.
--- Assumes nothing.
-use borrow.Author.Needs.{needs}
-use native.Mathlib.Omega.{arith}
-use mathlib.Core.Path.{_≡_}
+-- `cases::hex` is safe and ends. The loop: i is at most the length, which stays as it is. Assumes nothing.
 use Prim.Native.Nat.{_≤_}
+use mathlib.Core.Path.{_≡_}
+use native.Mathlib.Omega.{arith}
 use lib.ListN.{length}
+use borrow.Author.Needs.{needs}
 use Rattle.cases.proofs.hex.Statement.{statement}
 use Rattle.cases.proofs.hex.Tie as tie
 
@@ -20,8 +19,11 @@ loop-holds c = search needs
 sub-i : tie.Need-sub-i Inv-loop μ-loop
 sub-i c = omega arith
 
+cast-digit : tie.Need-cast-digit Inv-loop μ-loop
+cast-digit c = search needs
+
 digit-requires : tie.Need-digit-requires Inv-loop μ-loop
-digit-requires c κs = omega arith
+digit-requires c κs = search needs
 
 slice-write-out : tie.Need-slice-write-out Inv-loop μ-loop
 slice-write-out c = search needs
@@ -46,6 +48,7 @@ hex-spec =
     μ-loop
     loop-holds
     sub-i
+    cast-digit
     digit-requires
     slice-write-out
     loop-less

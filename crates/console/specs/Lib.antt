@@ -1,0 +1,2 @@
+-- The definition that a contract cites. Assumes nothing.
+pub mod Digit
