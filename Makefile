@@ -1,7 +1,8 @@
 # Everything that can be typed here; `make help` lists it.
-.PHONY: help test check list compare bench fmt
+.PHONY: help test check list write compare bench fmt
 
 BENCH_DIR := target/bench
+export REQUEST
 
 help: ## list the targets
 	@grep -E '^[a-z]+:.*## ' $(MAKEFILE_LIST) | sed -E 's/^([a-z]+):.*## /\1\t/' | expand -t 10
@@ -19,9 +20,15 @@ list: ## list the tiny image in a file: make list IMAGE=samples/case4.bin
 	@rt check tiny_list >target/list.log 2>&1 || { cat target/list.log; exit 1; }
 	@target/bin/tiny_list <"$(IMAGE)"
 
-compare: ## compare with a reader in C on many images: make compare IMAGES=20000 SEED=1
+write: ## write a tiny image: make write REQUEST='12; 10 01 00; 74 6F 70 B1' (buffer; run; pool)
+	@test -n "$$REQUEST" || { echo "write: what? For example: make write REQUEST='12; 10 01 00; 74 6F 70 B1'"; exit 1; }
 	@mkdir -p target
-	@rt check tiny_list tiny_answers >target/compare.log 2>&1 || { cat target/compare.log; exit 1; }
+	@rt check tiny_write >target/write.log 2>&1 || { cat target/write.log; exit 1; }
+	@printf '%s\n' "$$REQUEST" | target/bin/tiny_write
+
+compare: ## compare with a reader and a writer in C: make compare IMAGES=20000 SEED=1
+	@mkdir -p target
+	@rt check tiny_list tiny_answers tiny_write >target/compare.log 2>&1 || { cat target/compare.log; exit 1; }
 	@python3 tests/run.py $(or $(IMAGES),20000) $(or $(SEED),1)
 
 bench: ## time the CRCs against zlib's and against a plain C loop (no test)

@@ -3,11 +3,14 @@
 
     run.py [IMAGES [SEED]]
 
-1. every sample is listed as stored beside it; input of a million bytes is listed, and a read error is said;
+1. every sample is listed as stored beside it; input of a million bytes is listed; too many requests and a read error are said;
 2. every answer of `tiny_answers` for IMAGES images, each with two lists, is the answer of tests/reference/tiny.c; and where an image was
    made for an answer of the judge with the full list, it gets that;
 3. `tiny_list` lists some of them as tests/reference/tiny.c does;
-4. each refusal number from 1 to 11, and 42, 43 and 44, was among the answers.
+4. each refusal number from 1 to 11, and 42, 43 and 44, was among the answers;
+5. every answer of `tiny_write` for as many requests, and at least 20,000, is the answer of tests/reference/tiny.c; where a request was
+   made for an answer, it gets that; each refusal number of the writer was among the answers, and no other. What the gate compares
+   `tiny_write` with is what the reference answers.
 """
 import itertools
 import os
@@ -19,10 +22,12 @@ import tempfile
 
 sys.path.insert(0, os.path.dirname(os.path.abspath(__file__)))
 import tiny_images
+import tiny_runs
 
 FULL = 255
 ROOM = 65536
 LISTED = 600
+REQUESTS = 20000  # at least
 BIN = os.path.join("target", "bin")
 
 
@@ -62,19 +67,37 @@ def samples(reference):
     return len(names)
 
 
+def complaint(program, given):
+    """What a program says on standard error of input that it does nothing with."""
+    run = subprocess.run([os.path.join(BIN, program)], stdin=given, stdout=subprocess.PIPE, stderr=subprocess.PIPE, check=True)
+    return b"" if run.stdout else run.stderr
+
+
+def stored_requests(reference):
+    """What the gate compares `tiny_write` with is what the reference answers."""
+    with open("crates/tiny_write/stdin", "rb") as given, open("crates/tiny_write/stdout", "rb") as stored:
+        if output(reference, "write", given=given.read()) != stored.read():
+            fail("crates/tiny_write/stdout is not what tests/reference/tiny.c answers")
+
+
 def other_input():
-    """Input that is far longer than an image, and input that cannot be read: a folder."""
+    """Input that is too long, and input that cannot be read: a folder."""
     program = os.path.join(BIN, "tiny_list")
     with open("samples/case4.bin", "rb") as image, open("samples/case4.txt", "rb") as stored, tempfile.TemporaryFile() as long:
         long.write(image.read() + bytes(10 ** 6))
         long.seek(0)
         if subprocess.run([program], stdin=long, stdout=subprocess.PIPE, check=True).stdout != stored.read():
             fail("case 4 with a million bytes behind it is not listed as case 4")
+    said = b"tiny_write: standard input is over 65,536 bytes or cannot be read\n"
+    with tempfile.TemporaryFile() as long:
+        long.write(b"12; 10 01 00; 74 6F 70 B1\n" * 2521)  # 65,546 bytes
+        long.seek(0)
+        if complaint("tiny_write", long) != said:
+            fail("requests of over 65,536 bytes are not refused on standard error")
     folder = os.open(".", os.O_RDONLY)
-    run = subprocess.run([program], stdin=folder, stdout=subprocess.PIPE, stderr=subprocess.PIPE, check=True)
-    os.close(folder)
-    if run.stdout or run.stderr != b"tiny_list: standard input cannot be read\n":
+    if complaint("tiny_list", folder) != b"tiny_list: standard input cannot be read\n" or complaint("tiny_write", folder) != said:
         fail("a read error is not said on standard error")
+    os.close(folder)
 
 
 def record(mask, image):
@@ -122,6 +145,50 @@ def listings(reference, made):
             fail("the listings of %s (%s) differ" % (image.hex(), group))
 
 
+def lines(made, seed):
+    """Lines for the writer: the requests, and among them lines that are none, and empty ones. With each goes what must be answered:
+    a line, None where that is not known, or "" for no line at all."""
+    rnd = random.Random(seed)
+    others = tiny_images.cycle(rnd, tiny_runs.OTHER_LINES)
+    for room, run, pool, said in made:
+        yield tiny_runs.line(rnd, room, run, pool), said
+        if rnd.random() < 0.02:
+            yield next(others), "not a request"
+        if rnd.random() < 0.02:
+            yield b"", ""
+
+
+def line_runs(made, seed):
+    """The lines in runs of less than 65,536 bytes; the last line of every other run has no newline."""
+    run, expected, newline = b"", [], True
+    for line, said in lines(made, seed):
+        if len(run) + len(line) + 1 >= ROOM:
+            yield run if newline else run[:-1], expected
+            run, expected, newline = b"", [], not newline
+        run += line + b"\n"
+        if said != "":
+            expected.append((line, said))
+    yield run if newline else run[:-1], expected
+
+
+def compare_writers(reference, made, seed):
+    """All answers to the lines; how often each refusal number (0: written) was answered, and how many answers were known before."""
+    counts, known = {}, 0
+    for run, expected in line_runs(made, seed):
+        ours = output(os.path.join(BIN, "tiny_write"), given=run).split(b"\n")
+        theirs = output(reference, "write", given=run).split(b"\n")
+        for a, b, (line, said) in zip(ours, theirs, expected):
+            if a != b or said is not None and a != said.encode():
+                fail("%r (made to be %s):\n%r\nreference:\n%r" % (line, said, a, b))
+            words = a.decode().split()
+            key = int(words[1]) if words[0] == "refused" else 0 if words[0] == "length" else "none"
+            counts[key] = counts.get(key, 0) + 1
+            known += said is not None
+        if not len(ours) == len(theirs) == len(expected) + 1 or ours[-1] or theirs[-1]:
+            fail("%d lines, %d and %d answered" % (len(expected), len(ours) - 1, len(theirs) - 1))
+    return counts, known
+
+
 def main():
     os.chdir(os.path.join(os.path.dirname(os.path.abspath(__file__)), ".."))
     number = int(sys.argv[1]) if len(sys.argv) > 1 else 20000
@@ -130,6 +197,7 @@ def main():
     with tempfile.TemporaryDirectory() as folder:
         reference = build(folder)
         print("tests: %d samples listed as stored" % samples(reference))
+        stored_requests(reference)
         other_input()
         counts, compared = compare(reference, made, seed)
         print("tests: %d images with two lists each, %d answered as by tests/reference/tiny.c" % (number, compared))
@@ -140,6 +208,17 @@ def main():
             fail("no image was answered with %s" % missing)
         listings(reference, made[:LISTED])
         print("tests: %d images listed as by tests/reference/tiny.c" % min(LISTED, number))
+        counts, known = compare_writers(reference, itertools.islice(tiny_runs.requests(seed), max(number, REQUESTS)), seed)
+        print("tests: %d lines to the writer answered as by tests/reference/tiny.c, %d of them with an answer known before"
+              % (sum(counts.values()), known))
+        print("tests: written %d; refused " % counts.get(0, 0) + ", ".join("%d: %d" % (n, counts.get(n, 0)) for n in tiny_runs.ORDER)
+              + "; no request %d" % counts.get("none", 0))
+        missing = [n for n in (0, *tiny_runs.ORDER) if not counts.get(n)]
+        if missing:
+            fail("no request was answered with %s" % missing)
+        others = sorted(set(counts) - {0, "none", *tiny_runs.ORDER}, key=str)
+        if others or 2 * known < sum(counts.values()):
+            fail("the writer said %s, and %d answers were known before" % (others, known))
 
 
 main()

@@ -1,8 +1,9 @@
 /*
- * A reader and lister of tiny images in C, to hold the Rattle code against. tests/README.md says what it was written from.
+ * A reader, lister and writer of tiny images in C, to hold the Rattle code against. tests/README.md says what it was written from.
  *
  *     tiny list < image         the listing of docs/LISTING.md, full list
  *     tiny answers < records    every answer, for a run of images with their lists; tests/README.md has the form
+ *     tiny write < requests     the writer's answer to each line; tests/README.md has the form
  *
  * Exit: 0 whenever it answered, 2 on a wrong command line, 3 if standard input or output failed.
  */
@@ -12,12 +13,12 @@
 #include <stdlib.h>
 #include <string.h>
 
-enum { MAGIC = 0x56, VERSION = 2, HEADER = 3, FULL_LIST = 255 };
+enum { MAGIC = 0x56, VERSION = 2, HEADER = 3, LONGEST = 255, FULL_LIST = 255 };
 
 /* refusal 0 is "not refused"; a refused answer has a value of 0 */
 struct answer {
     unsigned refusal, place;
-    unsigned value; /* judge: count of items; name: length; else 0 */
+    unsigned value; /* judge: count of items; name, writer: length; else 0 */
 };
 
 struct text {
@@ -275,6 +276,62 @@ static struct answer name(const uint8_t *image, size_t lent, unsigned list, uint
     return accept(serial.serial.length);
 }
 
+/* ---- the writer ---- */
+
+/* How many bytes the items of a run take in an image. In a run each item has a length byte; in an image only those of long tags do. */
+static struct answer size_of_run(const uint8_t *run, size_t length) {
+    unsigned size = 0, number = 0;
+    for (size_t at = 0; at < length; number++) {
+        if (length - at < 2)
+            return refuse(46, number); /* cut before the length byte */
+        unsigned tag = run[at], data = run[at + 1];
+        if (tag == 0x01)
+            return refuse(46, number);
+        if (tag >> 4 && data != tag >> 4)
+            return refuse(46, number);
+        if (length - at - 2 < data)
+            return refuse(46, number); /* cut in the data */
+        size += (tag >> 4 ? 1 : 2) + data;
+        at += 2 + data;
+    }
+    return accept(size);
+}
+
+/* The image of a run and of the pool's data (null: no pool) goes to the front of a lent buffer. A refused call leaves the buffer alone. */
+static struct answer write_image(const uint8_t *run, size_t run_length, const uint8_t *pool, size_t pool_length,
+                                 uint8_t *buffer, size_t room) {
+    struct answer items = size_of_run(run, run_length);
+    if (items.refusal)
+        return items;
+    size_t length = HEADER + items.value + (pool ? 2 + pool_length : 0) + 1;
+    if (length > LONGEST)
+        return refuse(40, 0);
+    if (length > room)
+        return refuse(41, 0);
+    uint8_t image[LONGEST] = {MAGIC, VERSION, (uint8_t)length};
+    size_t to = HEADER, data;
+    for (size_t at = 0; at < run_length; at += 2 + data) {
+        data = run[at + 1];
+        image[to++] = run[at];
+        if (run[at] >> 4 == 0)
+            image[to++] = run[at + 1];
+        memcpy(image + to, run + at + 2, data);
+        to += data;
+    }
+    if (pool) {
+        image[to++] = 0x01;
+        image[to++] = (uint8_t)pool_length;
+        memcpy(image + to, pool, pool_length);
+        to += pool_length;
+    }
+    image[to] = crc8(image, (unsigned)to);
+    struct answer judged = judge(image, length, FULL_LIST);
+    if (judged.refusal)
+        return judged;
+    memcpy(buffer, image, length);
+    return accept((unsigned)length);
+}
+
 /* ---- printing ---- */
 
 static void print_quoted(const char *bytes, unsigned length) {
@@ -358,7 +415,7 @@ static void list_image(const uint8_t *image, size_t lent) {
 static void print_hex(const char *before, const void *bytes, unsigned length) {
     fputs(before, stdout);
     for (unsigned i = 0; i < length; i++)
-        printf("%02x", ((const uint8_t *)bytes)[i]);
+        printf("%02X", ((const uint8_t *)bytes)[i]);
 }
 
 static void answer_text(const char *before, const struct text *text) {
@@ -373,14 +430,14 @@ static void answer_fields(const struct item *item) {
     if (item->tag == 0x01)
         printf("strings %u data %u %u", item->strings, item->data, item->length);
     if (item->tag == 0x11)
-        printf("flags %02x", item->flags);
+        printf("flags %02X", item->flags);
     if (item->tag == 0x60)
         print_hex("address ", item->address, 6);
     if (index_count(item->tag) >= 1)
         answer_text("serial ", &item->serial);
     if (index_count(item->tag) == 2) {
         answer_text(" part ", &item->part);
-        printf(" major %02x", item->major);
+        printf(" major %02X", item->major);
         print_hex(" shown ", item->major_text, 2);
         printf(" minor %u", item->minor);
         print_hex(" characters ", item->characters, 2);
@@ -408,7 +465,7 @@ static void all_answers(const uint8_t *image, size_t lent, unsigned list) {
         printf("\nitem %u ", i);
         if (print_refusal(item_by_number(image, lent, list, i, &item)))
             continue;
-        printf("tag %02x place %u length %u ", item.tag, item.place, item.length);
+        printf("tag %02X place %u length %u ", item.tag, item.place, item.length);
         if (item.known)
             answer_fields(&item);
         else
@@ -460,17 +517,150 @@ static bool answer_records(const uint8_t *input, size_t length) {
     return true;
 }
 
+/* ---- the writer's requests, in the form of tests/README.md ---- */
+
+enum { MOST = 1024 };
+
+/* the bytes of a run or of a pool */
+struct part {
+    size_t length;
+    uint8_t bytes[MOST];
+};
+
+struct request {
+    size_t room;
+    struct part run, pool;
+    bool has_pool;
+};
+
+/* the value of a hexadecimal digit, or 16 */
+static unsigned hex_digit(uint8_t c) {
+    if (c >= '0' && c <= '9')
+        return c - '0';
+    if (c >= 'A' && c <= 'F')
+        return c - 'A' + 10u;
+    if (c >= 'a' && c <= 'f')
+        return c - 'a' + 10u;
+    return 16;
+}
+
+/* Reads bytes up to a semicolon or the end of the line, and moves there. */
+static bool parse_part(const uint8_t *line, size_t length, size_t *at, struct part *part) {
+    part->length = 0;
+    while (*at < length && line[*at] != ';') {
+        if (line[*at] == ' ') {
+            *at += 1;
+            continue;
+        }
+        if (length - *at < 2 || part->length == MOST)
+            return false;
+        unsigned high = hex_digit(line[*at]), low = hex_digit(line[*at + 1]);
+        if (high > 15 || low > 15)
+            return false;
+        part->bytes[part->length++] = (uint8_t)(16 * high + low);
+        *at += 2;
+    }
+    return true;
+}
+
+static size_t past_blanks(const uint8_t *line, size_t length, size_t at) {
+    while (at < length && line[at] == ' ')
+        at++;
+    return at;
+}
+
+static bool parse_request(const uint8_t *line, size_t length, struct request *request) {
+    size_t at = past_blanks(line, length, 0), first = at;
+    request->room = 0;
+    for (; at < length && line[at] >= '0' && line[at] <= '9'; at++) {
+        request->room = 10 * request->room + (line[at] - '0');
+        if (request->room > MOST)
+            return false;
+    }
+    if (at == first)
+        return false;
+    at = past_blanks(line, length, at);
+    if (at == length || line[at] != ';')
+        return false;
+    at++;
+    if (!parse_part(line, length, &at, &request->run))
+        return false;
+    request->has_pool = at < length; /* a second semicolon */
+    if (!request->has_pool)
+        return true;
+    at++;
+    return parse_part(line, length, &at, &request->pool) && at == length;
+}
+
+static void print_spaced(const uint8_t *bytes, size_t length) {
+    for (size_t i = 0; i < length; i++)
+        printf(" %02X", bytes[i]);
+}
+
+/* a copy that is exactly as large as what is lent */
+static uint8_t *lent_copy(const struct part *part) {
+    uint8_t *copy = malloc(part->length ? part->length : 1);
+    if (copy)
+        memcpy(copy, part->bytes, part->length);
+    return copy;
+}
+
+static bool answer_request(const struct request *request) {
+    uint8_t *run = lent_copy(&request->run);
+    uint8_t *pool = request->has_pool ? lent_copy(&request->pool) : NULL;
+    uint8_t *buffer = malloc(request->room ? request->room : 1);
+    bool lent = run && buffer && (pool || !request->has_pool);
+    if (lent) {
+        memset(buffer, 0xAA, request->room);
+        struct answer written = write_image(run, request->run.length, pool, request->has_pool ? request->pool.length : 0,
+                                            buffer, request->room);
+        if (written.refusal) {
+            printf("refused %u at %u", written.refusal, written.place);
+        } else {
+            printf("length %u:", written.value);
+            print_spaced(buffer, written.value);
+        }
+        if (request->room > written.value) {
+            fputs(" rest", stdout);
+            print_spaced(buffer + written.value, request->room - written.value);
+        }
+        putchar('\n');
+    }
+    free(run);
+    free(pool);
+    free(buffer);
+    return lent;
+}
+
+/* each line: a request; empty lines are skipped, and the last one may lack its newline */
+static bool answer_requests(const uint8_t *input, size_t length) {
+    static struct request request;
+    size_t end;
+    for (size_t at = 0; at < length; at = end + 1) {
+        for (end = at; end < length && input[end] != '\n';)
+            end++;
+        if (end == at)
+            continue;
+        if (!parse_request(input + at, end - at, &request))
+            puts("not a request");
+        else if (!answer_request(&request))
+            return false;
+    }
+    return true;
+}
+
 int main(int argc, char **argv) {
-    bool list = argc == 2 && strcmp(argv[1], "list") == 0;
-    if (!list && !(argc == 2 && strcmp(argv[1], "answers") == 0)) {
-        fputs("usage: tiny list | tiny answers, input on standard input\n", stderr);
+    const char *command = argc == 2 ? argv[1] : "";
+    bool list = strcmp(command, "list") == 0, answers = strcmp(command, "answers") == 0, writes = strcmp(command, "write") == 0;
+    if (!list && !answers && !writes) {
+        fputs("usage: tiny list | tiny answers | tiny write, input on standard input\n", stderr);
         return 2;
     }
     static uint8_t input[65536];
     size_t length = fread(input, 1, sizeof input, stdin);
     if (ferror(stdin))
         return 3;
-    if (!(list ? lend(input, length, true, FULL_LIST) : answer_records(input, length)))
+    if (!(list ? lend(input, length, true, FULL_LIST) : answers ? answer_records(input, length) : answer_requests(input, length)))
         return 3;
     return fflush(stdout) || ferror(stdout) ? 3 : 0;
 }
