@@ -572,25 +572,26 @@ def two_rules(rnd):
         yield image if 4 in broken else lend(rnd, image), refused(low, where[low])
 
 
-def truncations(rnd):
-    """Every truncation of some image, from nothing to all of it; then of the next."""
+def small_images(rnd):
+    """Good images of at most 60 bytes, with their answers."""
     while True:
         image, said = next(rnd.choice([good_each_tag, good_mixed, good_quotes])(rnd))
+        if image[2] <= 60:
+            yield image, said
+
+
+def truncations(rnd):
+    """Every truncation of some image, from nothing to all of it; then of the next."""
+    for image, said in small_images(rnd):
         total = image[2]
-        if total > 60:
-            continue
         for n in range(total + 1):
             yield image[:n], refused(1, 0) if n < 4 else refused(4, 2) if n < total else said
 
 
 def truncations_checked(rnd):
     """Every truncation of the items of some image, with L and the check made right again: reaches 6 to 11."""
-    while True:
-        image, _ = next(rnd.choice([good_each_tag, good_mixed, good_quotes])(rnd))
-        total = image[2]
-        if total > 60:
-            continue
-        for n in range(3, total):
+    for image, _ in small_images(rnd):
+        for n in range(3, image[2]):
             yield finish(image[3:n]), "?"
 
 

@@ -341,32 +341,12 @@ def rebuilt(rnd, seed):
     yield from taken_apart(rnd, ((image, said) for _, image, said in tiny_images.images(seed) if said.startswith("accepted")))
 
 
-def broken_7(rnd):
-    yield from taken_apart(rnd, tiny_images.rule_7(rnd))
-
-
-def broken_8(rnd):
-    yield from taken_apart(rnd, tiny_images.rule_8(rnd))
-
-
-def broken_9(rnd):
-    yield from taken_apart(rnd, tiny_images.rule_9(rnd))
-
-
-def broken_9_short(rnd):
-    yield from taken_apart(rnd, tiny_images.rule_9_short(rnd))
-
-
-def broken_10(rnd):
-    yield from taken_apart(rnd, tiny_images.rule_10(rnd))
-
-
-def broken_11(rnd):
-    yield from taken_apart(rnd, tiny_images.rule_11(rnd))
-
-
-def broken_same(rnd):
-    yield from taken_apart(rnd, tiny_images.two_same(rnd))
+def made_of(images):
+    """The images that a group of tiny_images makes."""
+    def group(rnd):
+        yield from taken_apart(rnd, images(rnd))
+    group.__name__ = "made of " + images.__name__
+    return group
 
 
 def several(rnd):
@@ -515,9 +495,10 @@ def paper_cases(_):
 # a group and how many requests it gives in each turn
 GROUPS = [(good_mixed, 8), (good_each_tag, 6), (long_lengths, 8), (good_pools, 3), (lengths, 13), (rooms, 6), (rule_46_length, 7),
           (rule_46_pool, 2), (rule_46_cut, 7), (rule_46_far, 1), (rule_46_twice, 1), (rule_40, 4), (rule_40_pool, 3), (rule_40_wide, 1),
-          (rule_7, 4), (rule_9_order, 3), (broken_7, 2), (broken_8, 1), (broken_9, 5), (broken_9_short, 2), (broken_10, 7),
-          (broken_11, 12), (broken_same, 2), (several, 8), (truncations, 6), (pool_truncations, 3), (random_bytes, 2),
-          (random_alphabet, 4), (random_items, 6), (mutated, 5)]
+          (rule_7, 4), (rule_9_order, 3), (made_of(tiny_images.rule_7), 2), (made_of(tiny_images.rule_8), 1),
+          (made_of(tiny_images.rule_9), 5), (made_of(tiny_images.rule_9_short), 2), (made_of(tiny_images.rule_10), 7),
+          (made_of(tiny_images.rule_11), 12), (made_of(tiny_images.two_same), 2), (several, 8), (truncations, 6),
+          (pool_truncations, 3), (random_bytes, 2), (random_alphabet, 4), (random_items, 6), (mutated, 5)]
 REBUILT = 16  # the same for rebuilt
 
 

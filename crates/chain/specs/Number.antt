@@ -10,5 +10,6 @@ unfoldable pub numberFrom : ℕ → (ℕ → Bool) → List ℕ → Found
 numberFrom n test [] = Nothing
 numberFrom n test (x ∷ xs) = let rest = numberFrom (n + 1) test xs in cond (test x) (At n) rest
 
+-- counted from 0
 abbrev pub numberOf : (ℕ → Bool) → List ℕ → Found
 numberOf test l = numberFrom 0 test l

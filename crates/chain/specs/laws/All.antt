@@ -20,6 +20,7 @@ module _ {A : Type 0} where
   all-both P Q R f [] a b = tt
   all-both P Q R f (x ∷ xs) a b = (f x (a .0) (b .0), all-both P Q R f xs (a .1) (b .1))
 
+  -- each element of two lists that are joined
   pub all-append : (P : A → Type 0) (l m : List A) → All P l → All P m → All P (l ++ m)
   all-append P [] m a b = b
   all-append P (x ∷ xs) m a b = (a .0, all-append P xs m (a .1) b)

@@ -34,6 +34,7 @@ module _ {A : Type 0} where
   keep-every test [] a = refl
   keep-every test (x ∷ xs) a = rw (a .0, keep-every test xs (a .1))
 
+  -- what is kept of two lists that are joined
   pub keep-append : (test : A → Bool) (l m : List A) → keep test (l ++ m) ≡ keep test l ++ keep test m
   unfolding keep
   keep-append test [] m = refl

@@ -1,4 +1,4 @@
--- `run::lay_item` meets its contract: the head is put after what the image holds, and the data after the head. Assumes nothing.
+-- `lay_item` meets its contract: the head is put after what the image holds, and the data after the head. Assumes nothing.
 use Prim.Native.Nat.{_+_}
 use mathlib.Core.Path.{refl, ap, _∙_}
 use native.Mathlib.Omega.{arith}
@@ -8,11 +8,11 @@ use Rattle.octets.specs.Bytes.{byte}
 use Rattle.octets.specs.laws.Bytes.{length-run, part-run}
 use Rattle.tiny_layout.specs.Layout.{headSize}
 use Rattle.tiny_layout.specs.laws.Layout.{head-bounds}
-use Rattle.tiny_writer.proofs.run.lay_item.Statement.{statement}
+use Rattle.tiny_writer.proofs.lay_item.Statement.{statement}
 use Rattle.tiny_writer.specs.Run.{runSize}
 use Rattle.tiny_writer.specs.laws.Holds.{holds-item}
 use Rattle.tiny_writer.specs.laws.Laid.{laid-parts}
-use Rattle.tiny_writer.proofs.run.lay_item.Tie as tie
+use Rattle.tiny_writer.proofs.lay_item.Tie as tie
 
 byte-at-requires : tie.Need-byte-at-requires
 byte-at-requires c κs = search needs

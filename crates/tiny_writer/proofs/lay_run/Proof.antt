@@ -1,14 +1,14 @@
--- `run::lay_run` meets its contract. The loop's invariant: what the image holds and the items from here on are the header and all items. Assumes nothing.
+-- `lay_run` meets its contract. The loop's invariant: what the image holds and the items from here on are the header and all items. Assumes nothing.
 use Prim.Native.Nat.{ℕ, _+_, _-_, _≤_}
 use mathlib.Core.List.{List, _++_}
 use mathlib.Core.Path.{_≡_, refl, sym, ap, _∙_}
 use native.Mathlib.Omega.{arith}
 use lib.ListN.{length, take, length-append, length-take}
-use Rattle.tiny_writer.proofs.run.lay_run.Statement.{statement}
+use Rattle.tiny_writer.proofs.lay_run.Statement.{statement}
 use Rattle.tiny_writer.specs.Building.{laidFrom}
 use Rattle.tiny_writer.specs.laws.Holds.{Laying, laying-fits, laying-turn, laying-done}
 use Rattle.tiny_writer.specs.laws.Run.{run-some, items-good}
-use Rattle.tiny_writer.proofs.run.lay_run.Tie as tie
+use Rattle.tiny_writer.proofs.lay_run.Tie as tie
 
 -- the header's three bytes, and the items
 whole-length : (r image : List ℕ) → 3 ≤ length image → length (take 3 image ++ laidFrom r 0) ≡ 3 + length (laidFrom r 0)

@@ -1,4 +1,4 @@
--- `image::built` meets its contract: header, items, pool and check byte are put one after the other. Assumes nothing.
+-- `built` meets its contract: header, items, pool and check byte are put one after the other. Assumes nothing.
 use Prim.Native.Nat.{_-_, ℕ, _+_}
 use mathlib.Core.List.{List, [], _∷_, _++_, flatten}
 use mathlib.Core.Path.{ap, _∙_}
@@ -6,12 +6,12 @@ use native.Mathlib.Omega.{arith}
 use lib.ListN.{length, take, replicate, length-take}
 use borrow.Author.Needs.{needs}
 use Rattle.octets.specs.laws.Put.{put-length, put-front}
-use Rattle.tiny_writer.proofs.image.built.Statement.{statement}
+use Rattle.tiny_writer.proofs.built.Statement.{statement}
 use Rattle.tiny_writer.specs.Building.{laidFrom}
 use Rattle.tiny_writer.specs.Image.{poolGiven, parts, poolItems}
 use Rattle.tiny_writer.specs.laws.Holds.{holds-image}
 use Rattle.tiny_writer.specs.laws.Length.{length-is, last-place, unchecked-is}
-use Rattle.tiny_writer.proofs.image.built.Tie as tie
+use Rattle.tiny_writer.proofs.built.Tie as tie
 
 slice-aggregate-put-at : tie.Need-slice-aggregate-put-at
 slice-aggregate-put-at c = search needs

@@ -4,13 +4,13 @@ use mathlib.Core.Path.{ap, refl}
 use native.Mathlib.Omega.{arith}
 use lib.ListN.{length, take}
 use borrow.Author.Needs.{needs}
-use Rattle.tiny_writer.proofs.image.lay_pool.Statement.{statement}
+use Rattle.tiny_writer.proofs.lay_pool.Statement.{statement}
 use Rattle.tiny_writer.specs.Building.{poolBytes}
 use Rattle.tiny_writer.specs.laws.Holds.{holds-none, holds-item}
 use Rattle.tiny_writer.specs.laws.Length.{pool-size, pool-given, none-given}
-use Rattle.tiny_writer.proofs.image.lay_pool.Tie as tie
+use Rattle.tiny_writer.proofs.lay_pool.Tie as tie
 
--- `image::lay_pool` meets its contract: the head is put after what the image holds, and the data after the head; without a pool, nothing. Assumes nothing.
+-- `lay_pool` meets its contract: the head is put after what the image holds, and the data after the head; without a pool, nothing. Assumes nothing.
 
 cast-t8 : tie.Need-cast-t8
 cast-t8 c =
