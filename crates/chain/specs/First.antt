@@ -16,6 +16,11 @@ abbrev pub when : Bool → ℕ → Found
 when true p = At p
 when false p = Nothing
 
+-- the first of several checks that finds something
+abbrev pub checks : List Found → Found
+checks [] = Nothing
+checks (f ∷ fs) = orElse f (checks fs)
+
 -- what the first item of the list that breaks the rule says
 unfoldable pub first : (ℕ → Found) → List ℕ → Found
 first rule [] = Nothing

@@ -6,11 +6,14 @@ pub mod Chain
 pub mod Places
 pub mod Agree
 pub mod First
+pub mod Checks
 pub mod Loops
 pub mod Nth
 pub mod Keep
 pub mod Number
 pub mod Ranges
 pub mod Smallest
+pub mod Rising
+pub mod Apart
 pub mod Steps
 pub mod Fill

@@ -2,6 +2,8 @@
 use libc::STDERR_FILENO;
 use libc::STDIN_FILENO;
 use libc::STDOUT_FILENO;
+use octets::Six;
+use octets::label::is_text;
 ghost use mathlib.Core.Path.{_≡_};
 ghost use Rattle.console.specs.Digit.{hexDigit};
 
@@ -29,6 +31,72 @@ pub fn digit(n: u8) -> u8
 // Two hexadecimal digits.
 pub fn put_hex(n: u8) {
     put(&[digit(n / 16), digit(n)]);
+}
+
+// Four hexadecimal digits.
+pub fn put_hex16(n: u16) {
+    put_hex((n / 0x100) as u8);
+    put_hex((n % 0x100) as u8);
+}
+
+// Eight hexadecimal digits.
+pub fn put_hex32(n: u32) {
+    put_hex16((n / 0x1_0000) as u16);
+    put_hex16((n % 0x1_0000) as u16);
+}
+
+// Bytes, two hexadecimal digits each.
+pub fn put_bytes(bytes: &[u8]) {
+    let mut i = 0;
+    while i < bytes.len() {
+        put_hex(bytes[i]);
+        i += 1;
+    }
+}
+
+// One character.
+pub fn put_character(c: u8) {
+    put(&[c]);
+}
+
+// A byte of a quoted text: a quotation mark or a backslash has a backslash in front, and what is no character is told by its number.
+pub fn put_quoted(c: u8) {
+    if is_text(c) {
+        if c == b'"' {
+            put(b"\\");
+        }
+        if c == b'\\' {
+            put(b"\\");
+        }
+        put_character(c);
+        return;
+    }
+    put(b"\\x");
+    put_hex(c);
+}
+
+// Six bytes with colons between them.
+pub fn put_address(six: Six) {
+    put_hex(six.b0);
+    put(b":");
+    put_hex(six.b1);
+    put(b":");
+    put_hex(six.b2);
+    put(b":");
+    put_hex(six.b3);
+    put(b":");
+    put_hex(six.b4);
+    put(b":");
+    put_hex(six.b5);
+}
+
+// The beginning of the line of a refusal in a listing.
+pub fn put_refused(number: u8, place: usize) {
+    put(b"refused ");
+    put_decimal(number as usize);
+    put(b" at ");
+    put_decimal(place);
+    put(b": ");
 }
 
 // Why a program does nothing, on standard error.

@@ -2,24 +2,32 @@
 ghost use mathlib.Core.Path.{_≡_};
 ghost use Rattle.kinds.specs.Kinds.{listed, full, bare, extended, fromBits};
 
-// The signatures of the board structures: eight bytes as the number they spell, the first lowest.
-const ACPI_TBL: u64 = 0x6C62_5469_7063_4124; // $AcpiTbl
+// The signatures of the board structures: eight bytes as the number they spell, the first lowest. First the four that count as on every list.
+pub const EEPROM: u64 = 0x246D_6F72_7065_4524; // $Eeprom$
 
-const FPGA_NFO: u64 = 0x6F66_6E41_4750_4624; // $FPGAnfo
+pub const EEPR_MAP: u64 = 0x7061_4D72_7065_4524; // $EeprMap
 
-const GPIO_DAT: u64 = 0x7461_446F_6970_4724; // $GpioDat
+pub const BRD_INFO: u64 = 0x6F66_6E49_6472_4224; // $BrdInfo
 
-const HD_CODEC: u64 = 0x6365_646F_4364_4824; // $HdCodec
+pub const PROM_SIG: u64 = 0x6769_536D_6F72_5024; // $PromSig
 
-const LOGO: u64 = 0x0000_246F_676F_4C24; // $Logo$
+pub const ACPI_TBL: u64 = 0x6C62_5469_7063_4124; // $AcpiTbl
 
-const MEM_CNFG: u64 = 0x6766_6E43_6D65_4D24; // $MemCnfg
+pub const FPGA_NFO: u64 = 0x6F66_6E41_4750_4624; // $FPGAnfo
 
-const MAC_INFO: u64 = 0x6F66_6E49_6361_4D24; // $MacInfo
+pub const GPIO_DAT: u64 = 0x7461_446F_6970_4724; // $GpioDat
 
-const U_CODE: u64 = 0x0024_6564_6F43_7524; // $uCode$
+pub const HD_CODEC: u64 = 0x6365_646F_4364_4824; // $HdCodec
 
-const VIDEO: u64 = 0x0024_6F65_6469_5624; // $Video$
+pub const LOGO: u64 = 0x0000_246F_676F_4C24; // $Logo$
+
+pub const MEM_CNFG: u64 = 0x6766_6E43_6D65_4D24; // $MemCnfg
+
+pub const MAC_INFO: u64 = 0x6F66_6E49_6361_4D24; // $MacInfo
+
+pub const U_CODE: u64 = 0x0024_6564_6F43_7524; // $uCode$
+
+pub const VIDEO: u64 = 0x0024_6F65_6469_5624; // $Video$
 
 // A kind of item: a tiny tag, or the eight bytes of a board structure's signature as the number they spell, the first lowest.
 pub enum Kind {

@@ -1,23 +1,13 @@
 // The name, into buffers of several sizes.
 use super::text::put_refusal;
 use console::put;
+use console::put_bytes;
 use console::put_decimal;
-use console::put_hex;
 use kinds::Kinds;
 use tiny::NameAnswer;
 use tiny::name;
 ghost use Prim.Native.Nat.{_≤_};
 ghost use lib.ListN.{length};
-
-// The bytes of the block.
-fn put_bytes(block: &[u8]) {
-    let mut i = 0;
-    while i < block.len() {
-        put_hex(block[i]);
-        i += 1;
-    }
-    put(b"\n");
-}
 
 fn put_answer(answer: NameAnswer) {
     match answer {
@@ -39,6 +29,7 @@ fn put_name(image: &[u8], kinds: Kinds, size: usize, block: &mut [u8])
     put_answer(name(image, kinds, &mut block[..size]));
     put(b" ");
     put_bytes(block);
+    put(b"\n");
 }
 
 // Each time with a block of AAh.

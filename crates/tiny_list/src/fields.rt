@@ -1,11 +1,9 @@
 // The fields of an item, as text.
-use super::text::put_character;
-use super::text::put_quoted;
 use super::text::put_text;
 use super::text::put_two;
 use console::put;
-use console::put_hex;
-use octets::Six;
+use console::put_character;
+use console::put_quoted;
 use tiny::Identity;
 use tiny::major_text;
 use tiny_layout::Reference;
@@ -16,21 +14,6 @@ pub fn put_reference(image: &[u8], reference: Reference) {
         Reference::Text(span) => put_text(image, span),
         Reference::Undecodable => put(b"undecodable"),
     }
-}
-
-// Six bytes with colons between them.
-pub fn put_address(six: Six) {
-    put_hex(six.b0);
-    put(b":");
-    put_hex(six.b1);
-    put(b":");
-    put_hex(six.b2);
-    put(b":");
-    put_hex(six.b3);
-    put(b":");
-    put_hex(six.b4);
-    put(b":");
-    put_hex(six.b5);
 }
 
 // Serial, part, major, minor and the two characters.

@@ -1,13 +1,14 @@
 // The lines of a listing.
-use super::fields::put_address;
 use super::fields::put_batch;
 use super::fields::put_identity;
 use super::fields::put_reference;
 use super::text::put_text;
 use super::words::put_rule;
 use console::put;
+use console::put_address;
 use console::put_decimal;
 use console::put_hex;
+use console::put_refused;
 use kinds::Kinds;
 use tiny::Item;
 use tiny::PoolShown;
@@ -96,11 +97,7 @@ fn put_items(image: &[u8], kinds: Kinds) {
 
 // The line of a refusal.
 fn put_refusal(refusal: Refusal) {
-    put(b"refused ");
-    put_decimal(refusal.number as usize);
-    put(b" at ");
-    put_decimal(refusal.place);
-    put(b": ");
+    put_refused(refusal.number, refusal.place);
     put_rule(refusal.number);
     put(b"\n");
 }

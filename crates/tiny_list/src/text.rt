@@ -1,30 +1,13 @@
 // Pieces of text on standard output.
 use console::digit;
 use console::put;
+use console::put_quoted;
 use octets::Span;
 use octets::byte_from;
-
-// One character.
-pub fn put_character(c: u8) {
-    put(&[c]);
-}
 
 // The last two decimal digits.
 pub fn put_two(n: u16) {
     put(&[digit((n / 10 % 10) as u8), digit((n % 10) as u8)]);
-}
-
-// A character of a quoted text: '"' and '\' have '\' in front.
-pub fn put_quoted(c: u8) {
-    if c == b'"' {
-        put(b"\\\"");
-        return;
-    }
-    if c == b'\\' {
-        put(b"\\\\");
-        return;
-    }
-    put_character(c);
 }
 
 // A string of the image as a quoted text, its end mark cleared.

@@ -1,6 +1,5 @@
 -- What is proved of the definitions. Assumes nothing.
 
-pub mod Tests
 pub mod Accepted
 pub mod Shorter
 pub mod Range

@@ -46,6 +46,14 @@ pub orElse-nothing : (f : Found) → orElse f Nothing ≡ f
 orElse-nothing (At p) = refl
 orElse-nothing Nothing = refl
 
+-- two answers that agree; the second ones need agree only where the first find nothing
+pub orElse-agree : {f g h i : Found} → f ≡ g → (f ≡ Nothing → h ≡ i) → orElse f h ≡ orElse g i
+orElse-agree {f} {g} {h} {i} e more = go f refl ∙ ap (λ (x : Found). orElse x i) e
+  where
+    go : (x : Found) → f ≡ x → orElse x h ≡ orElse x i
+    go (At p) d = refl
+    go Nothing d = more d
+
 -- ---- nothing is found exactly where no item breaks the rule
 pub first-all : (rule : ℕ → Found) (l : List ℕ) → first rule l ≡ Nothing → All (λ x. rule x ≡ Nothing) l
 unfolding first

@@ -1,13 +1,19 @@
 -- Items of one size d, end to end from p: n of them, up to p + n * d. A range is the case d = 1. Assumes nothing.
 use Prim.Native.Nat.{ℕ, zero, suc, _+_, _*_, _≤_, _<_}
-use mathlib.Core.Path.{_≡_, ap, _∙_}
+use mathlib.Core.Bool.{Bool}
+use mathlib.Core.Logic.{inl, inr}
+use mathlib.Core.Path.{_≡_, sym, ap, _∙_}
 use native.Mathlib.Omega.{arith}
+use lib.Dec.{ltb}
 use lib.ListN.{length}
+use borrow.Author.Tests.{lt-ltb, le-ltb}
 use Rattle.chain.specs.All.{All}
 use Rattle.chain.specs.Chain.{chain, ahead}
+use Rattle.chain.specs.First.{when}
 use Rattle.chain.specs.Nth.{nth}
 use Rattle.chain.specs.declared.Found.the-variants.{At}
 use Rattle.chain.specs.laws.All.{all-map}
+use Rattle.chain.specs.laws.Below.{below}
 use Rattle.chain.specs.laws.Chain.{chain-end, chain-more}
 use Rattle.chain.specs.laws.Places.{count-end, count-more}
 
@@ -38,3 +44,23 @@ module _ (d : ℕ) (pos : 0 < d) where
       rw (chain-more (ahead d) end ahead-grows p (omega arith)) (ap At (omega arith))
   steps-nth (suc n) p end (suc i) e h =
       rw (chain-more (ahead d) end ahead-grows p (omega arith)) (steps-nth n (p + d) end i (omega arith) (omega arith) ∙ ap At (omega arith))
+
+  -- and there is an item i exactly where that lies before the end, wherever the end is
+  none-past : (i p end : ℕ) → end ≤ p → nth (chain (ahead d) end p) i ≡ when (ltb (p + i * d) end) (p + i * d)
+  unfolding nth
+  none-past i p end h = rw (chain-end (ahead d) end ahead-grows p h, le-ltb (p + i * d) end (omega arith))
+
+  pub steps-place : (i p end : ℕ) → nth (chain (ahead d) end p) i ≡ when (ltb (p + i * d) end) (p + i * d)
+  unfolding nth
+  steps-place zero p end =
+      elim (below p end) [
+        | inl h ↦ rw (chain-more (ahead d) end ahead-grows p h)
+            (sym (ap (λ (q : ℕ). when (ltb q end) q) (omega arith) ∙ ap (λ (b : Bool). when b p) (lt-ltb p end h)))
+        | inr h ↦ none-past zero p end h
+      ]
+  steps-place (suc j) p end =
+      elim (below p end) [
+        | inl h ↦ rw (chain-more (ahead d) end ahead-grows p h)
+            (steps-place j (p + d) end ∙ ap (λ (q : ℕ). when (ltb q end) q) (omega arith))
+        | inr h ↦ none-past (suc j) p end h
+      ]

@@ -29,7 +29,7 @@ use Rattle.tiny_layout.specs.declared.Shape.{Shape}
 use Rattle.tiny_layout.specs.laws.Layout.{items-within}
 use Rattle.tiny_rules.specs.Judged.{rules, judged}
 use Rattle.tiny_rules.specs.Rules.{noCharacter, endUnmarked, rule2, rule3, rule4, rule5, passes, rule6, reserved, rule7, early, rule8, rule9, onKnown, badIndex, rule10, badField, rule11}
-use Rattle.tiny_rules.specs.laws.Tests.{neither, second-fails, kept-equal, under-mark}
+use Rattle.chain.specs.laws.Checks.{neither, second-fails, kept-equal, under-mark}
 use Rattle.verdict.specs.declared.Judged.{Judged}
 use Rattle.verdict.specs.declared.Judged.the-variants.{Accepted}
 use Rattle.verdict.specs.laws.Accepted.{Clear, clear, after, passed}

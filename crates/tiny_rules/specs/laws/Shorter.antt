@@ -25,7 +25,7 @@ use Rattle.tiny_layout.specs.declared.Shape.{Shape}
 use Rattle.tiny_layout.specs.laws.Pool.{poolBy}
 use Rattle.tiny_rules.specs.Judged.{rules, judged}
 use Rattle.tiny_rules.specs.Rules.{rule8, unfit, rule9, onKnown, badIndex, rule10, badField, rule11}
-use Rattle.tiny_rules.specs.laws.Tests.{mark-weaker}
+use Rattle.chain.specs.laws.Checks.{mark-weaker}
 use Rattle.verdict.specs.declared.Judged.the-variants.{Accepted}
 use Rattle.verdict.specs.laws.Accepted.{weaker-accepts}
 

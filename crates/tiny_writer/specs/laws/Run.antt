@@ -21,7 +21,7 @@ use Rattle.octets.specs.Cut.{Whole}
 use Rattle.octets.specs.laws.Bytes.{byte-run, run-append, run-all, run-between}
 use Rattle.octets.specs.laws.Cut.{run-whole, size-between, cut-flatten, flatten-cut}
 use Rattle.tiny_layout.specs.Layout.{isLong, headSize, dataLength, size}
-use Rattle.tiny_rules.specs.laws.Tests.{neither}
+use Rattle.chain.specs.laws.Checks.{neither}
 use Rattle.tiny_writer.specs.Run.{runSize, runNext, runPlaces, runItems, wrongLength, isPoolTag, cutShort, badItem, rule46, laid, given}
 
 -- an item of a run has a byte, and how many it has is read from its own bytes

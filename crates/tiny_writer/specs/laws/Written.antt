@@ -11,7 +11,7 @@ use Rattle.tiny_layout.specs.Layout.{total}
 use Rattle.tiny_rules.specs.Judged.{judged}
 use Rattle.tiny_rules.specs.laws.Accepted.{accepted-count, total-within}
 use Rattle.tiny_rules.specs.laws.Same.{judged-same}
-use Rattle.tiny_rules.specs.laws.Tests.{kept-under}
+use Rattle.chain.specs.laws.Checks.{kept-under}
 use Rattle.tiny_writer.specs.Image.{Parts, poolItems, imageLength, image}
 use Rattle.tiny_writer.specs.PartsOf.{partsOf}
 use Rattle.tiny_writer.specs.Run.{runItems, rule46}

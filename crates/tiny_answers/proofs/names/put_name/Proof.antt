@@ -43,6 +43,12 @@ put-requires-3 c κs = search needs
 put-bytes-requires : tie.Need-put-bytes-requires
 put-bytes-requires c κs = search needs
 
+slice-aggregate-put-4 : tie.Need-slice-aggregate-put-4
+slice-aggregate-put-4 c = search needs
+
+put-requires-4 : tie.Need-put-requires-4
+put-requires-4 c κs = search needs
+
 same-length : tie.Need-same-length
 same-length c = search needs
 
@@ -65,5 +71,7 @@ put-name-spec =
     slice-aggregate-put-3
     put-requires-3
     put-bytes-requires
+    slice-aggregate-put-4
+    put-requires-4
     same-length
     returns)

@@ -1,13 +1,15 @@
--- What joined tests tell, and a rule by a test or under a mark that is not broken. Assumes nothing.
+-- What joined tests tell; and what checks, and a rule under a mark, tell where they find nothing. Assumes nothing.
 use Prim.Native.Nat.{ℕ, _≤_}
-use mathlib.Core.Bool.{Bool, true, false, cond, not, _&&_, _||_}
+use mathlib.Core.Bool.{Bool, true, false, not, cond, _&&_, _||_}
+use mathlib.Core.List.{List, [], _∷_}
 use mathlib.Core.Path.{_≡_, refl, sym, ap, subst, _∙_}
 use lib.Dec.{eqb, ltb}
-use borrow.Author.Tests.{ltb-false, eqb-true, not-false}
-use Rattle.chain.specs.First.{when}
+use borrow.Author.Tests.{eqb-true, ltb-false, not-false}
+use Rattle.chain.specs.All.{All}
+use Rattle.chain.specs.First.{checks, when}
 use Rattle.chain.specs.declared.Found.{Found}
 use Rattle.chain.specs.declared.Found.the-variants.{Nothing}
-use Rattle.chain.specs.laws.First.{when-nothing}
+use Rattle.chain.specs.laws.First.{orElse-left, orElse-right, when-nothing}
 
 -- a disjunction fails: both its parts do
 pub neither : (a b : Bool) → a || b ≡ false → (a ≡ false) × (b ≡ false)
@@ -18,15 +20,24 @@ neither false b e = (refl, e)
 pub second-fails : (a b : Bool) → a && b ≡ false → a ≡ true → b ≡ false
 second-fails a b e h = subst (λ (t : Bool). t && b ≡ false) h e
 
--- a rule that asks for two equal numbers is not broken: they are equal
-pub kept-equal : (a b p : ℕ) → when (not (eqb a b)) p ≡ Nothing → a ≡ b
-kept-equal a b p e = eqb-true a b (not-false (eqb a b) (when-nothing (not (eqb a b)) p e))
+-- several checks that find nothing: none of them finds anything
+pub checks-none : (l : List Found) → checks l ≡ Nothing → All (λ f. f ≡ Nothing) l
+checks-none [] e = tt
+checks-none (f ∷ fs) e = (orElse-left f (checks fs) e, checks-none fs (orElse-right f (checks fs) e))
 
--- a rule against a number over a bound is not broken: it is not over
+-- a check that a test holds
+pub kept-true : (b : Bool) (p : ℕ) → when (not b) p ≡ Nothing → b ≡ true
+kept-true b p e = not-false b (when-nothing (not b) p e)
+
+-- that two numbers are equal
+pub kept-equal : (a b p : ℕ) → when (not (eqb a b)) p ≡ Nothing → a ≡ b
+kept-equal a b p e = eqb-true a b (kept-true (eqb a b) p e)
+
+-- against a number over a bound
 pub kept-under : (bound n p : ℕ) → when (ltb bound n) p ≡ Nothing → n ≤ bound
 kept-under bound n p e = ltb-false bound n (when-nothing (ltb bound n) p e)
 
--- a rule under a mark is not broken, and the mark is set: the rule itself is not broken
+-- a rule under a mark that is set
 pub under-mark : (b : Bool) (f : Found) → cond b f Nothing ≡ Nothing → b ≡ true → f ≡ Nothing
 under-mark b f e h = subst (λ (t : Bool). cond t f Nothing ≡ Nothing) h e
 

@@ -1,16 +1,16 @@
--- `names::put_bytes` meets its contract: it ends. Assumes nothing.
+-- `put_bytes` meets its contract: it ends. Assumes nothing.
 use Prim.Native.Nat.{_-_}
 use native.Mathlib.Omega.{arith}
-use lib.ListN.{length}
 use borrow.Author.Needs.{needs}
-use Rattle.tiny_answers.proofs.names.put_bytes.Statement.{statement}
-use Rattle.tiny_answers.proofs.names.put_bytes.Tie as tie
+use lib.ListN.{length}
+use Rattle.console.proofs.put_bytes.Statement.{statement}
+use Rattle.console.proofs.put_bytes.Tie as tie
 
 abbrev Inv-loop : tie.InvT-loop
-Inv-loop block i₀ t3 i = Unit {0}
+Inv-loop bytes i₀ i = Unit {0}
 
 abbrev μ-loop : tie.MeasureT-loop
-μ-loop block i₀ t3 i = length block - i
+μ-loop bytes i₀ i = length bytes - i
 
 loop-holds : tie.Need-loop-holds Inv-loop μ-loop
 loop-holds c = tt
@@ -30,12 +30,6 @@ loop-less c = omega arith
 loop-again : tie.Need-loop-again Inv-loop μ-loop
 loop-again c = tt
 
-slice-aggregate-put : tie.Need-slice-aggregate-put Inv-loop μ-loop
-slice-aggregate-put c = search needs
-
-put-requires : tie.Need-put-requires Inv-loop μ-loop
-put-requires c κs = omega arith
-
 returns : tie.Need-returns Inv-loop μ-loop
 returns c = search needs
 
@@ -51,6 +45,4 @@ put-bytes-spec =
     add-i
     loop-less
     loop-again
-    slice-aggregate-put
-    put-requires
     returns)

@@ -1,0 +1,5 @@
+-- The definitions that the contracts cite, examples of them, and laws that other crates may cite. Assumes nothing.
+pub mod Places
+pub mod Shapes
+pub mod Layout
+pub mod laws

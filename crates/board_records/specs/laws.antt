@@ -1,0 +1,3 @@
+-- What is proved of the definitions. Assumes nothing.
+
+pub mod Same

@@ -1,0 +1,109 @@
+-- `judge_fields` meets its contract: at each return, what the rules up to it found. Assumes nothing.
+use Rattle.board_rules.proofs.judge_fields.Statement.{statement}
+use Rattle.board_rules.proofs.judge_fields.Tie as tie
+use Rattle.board_rules.specs.Rules.{rule29, rule30, rule31}
+use Rattle.chain.specs.declared.Found.the-variants.{At, Nothing}
+use borrow.Author.Needs.{needs}
+use mathlib.Core.Path.{_≡_, sym, _∙_}
+
+bad-signature-requires : tie.Need-bad-signature-requires
+bad-signature-requires c κs = search needs
+
+enum-known-p : tie.Need-enum-known-p
+enum-known-p c = search needs
+
+refused-requires : tie.Need-refused-requires
+refused-requires c κs = search needs
+
+returns : tie.Need-returns
+unfolding rule30 rule31
+returns c =
+    let a = c .before .before .before .before .before .before .args in
+    let f29 : rule29 (a .image .now) ≡ At (c .before .before .p .given .0 .0) = sym (c .before .before .before .before .bad-signature .ensures) ∙ c .before .before .p .given .1 in
+    simp (f29, c .refused .ensures)
+
+enum-told : tie.Need-enum-told
+enum-told c = search needs
+
+map-at-requires : tie.Need-map-at-requires
+map-at-requires c κs = search needs
+
+bad-map-requires : tie.Need-bad-map-requires
+bad-map-requires c κs = search needs
+
+enum-known-p-2 : tie.Need-enum-known-p-2
+enum-known-p-2 c = search needs
+
+refused-requires-2 : tie.Need-refused-requires-2
+refused-requires-2 c κs = search needs
+
+returns-2 : tie.Need-returns-2
+unfolding rule30 rule31
+returns-2 c =
+    let a = c .before .before .before .before .before .before .before .before .before .before .args in
+    let f29 : rule29 (a .image .now) ≡ Nothing = sym (c .before .before .before .before .before .before .before .before .bad-signature .ensures) ∙ c .before .before .before .before .before .before .enum-told .given .1 in
+    let f30 : rule30 (a .image .now) ≡ At (c .before .before .p2 .given .0 .0) = rw (c .before .before .before .before .before .map-at .ensures) at (sym (c .before .before .before .before .bad-map .ensures) ∙ c .before .before .p2 .given .1) in
+    simp (f29, f30, c .refused2 .ensures)
+
+enum-told-2 : tie.Need-enum-told-2
+enum-told-2 c = search needs
+
+board-at-requires : tie.Need-board-at-requires
+board-at-requires c κs = search needs
+
+bad-board-type-requires : tie.Need-bad-board-type-requires
+bad-board-type-requires c κs = search needs
+
+enum-known-p-3 : tie.Need-enum-known-p-3
+enum-known-p-3 c = search needs
+
+refused-requires-3 : tie.Need-refused-requires-3
+refused-requires-3 c κs = search needs
+
+returns-3 : tie.Need-returns-3
+unfolding rule30 rule31
+returns-3 c =
+    let a = c .before .before .before .before .before .before .before .before .before .before .before .before .before .before .args in
+    let f29 : rule29 (a .image .now) ≡ Nothing = sym (c .before .before .before .before .before .before .before .before .before .before .before .before .bad-signature .ensures) ∙ c .before .before .before .before .before .before .before .before .before .before .enum-told .given .1 in
+    let f30 : rule30 (a .image .now) ≡ Nothing = rw (c .before .before .before .before .before .before .before .before .before .map-at .ensures) at (sym (c .before .before .before .before .before .before .before .before .bad-map .ensures) ∙ c .before .before .before .before .before .before .enum-told2 .given .1) in
+    let f31 : rule31 (a .image .now) ≡ At (c .before .before .p3 .given .0 .0) = rw (c .before .before .before .before .before .board-at .ensures) at (sym (c .before .before .before .before .bad-board-type .ensures) ∙ c .before .before .p3 .given .1) in
+    simp (f29, f30, f31, c .refused3 .ensures)
+
+enum-told-3 : tie.Need-enum-told-3
+enum-told-3 c = search needs
+
+judge-known-requires : tie.Need-judge-known-requires
+judge-known-requires c κs = search needs
+
+returns-4 : tie.Need-returns-4
+unfolding rule30 rule31
+returns-4 c =
+    let a = c .before .before .before .before .before .before .before .before .before .before .before .before .before .args in
+    let f29 : rule29 (a .image .now) ≡ Nothing = sym (c .before .before .before .before .before .before .before .before .before .before .before .bad-signature .ensures) ∙ c .before .before .before .before .before .before .before .before .before .enum-told .given .1 in
+    let f30 : rule30 (a .image .now) ≡ Nothing = rw (c .before .before .before .before .before .before .before .before .map-at .ensures) at (sym (c .before .before .before .before .before .before .before .bad-map .ensures) ∙ c .before .before .before .before .before .enum-told2 .given .1) in
+    let f31 : rule31 (a .image .now) ≡ Nothing = rw (c .before .before .before .before .board-at .ensures) at (sym (c .before .before .before .bad-board-type .ensures) ∙ c .before .enum-told3 .given .1) in
+    simp (f29, f30, f31) (c .judge-known .ensures)
+
+pub judge-fields-spec : {M : Type 1} → statement M
+judge-fields-spec =
+    tie.close
+    (tie.spec
+    bad-signature-requires
+    enum-known-p
+    refused-requires
+    returns
+    enum-told
+    map-at-requires
+    bad-map-requires
+    enum-known-p-2
+    refused-requires-2
+    returns-2
+    enum-told-2
+    board-at-requires
+    bad-board-type-requires
+    enum-known-p-3
+    refused-requires-3
+    returns-3
+    enum-told-3
+    judge-known-requires
+    returns-4)

@@ -1,0 +1,164 @@
+-- The judge's answers by computation: an image of case 13's layout (one record: map at 30h, board at 80h, StructLen E0h), and what one change makes of it.
+-- Further cases are run. Assumes nothing.
+use Prim.Native.Nat.{ℕ, zero, suc, _/_, _%_}
+use mathlib.Core.List.{List, [], _∷_, _++_, map}
+use mathlib.Core.Path.{_≡_, refl}
+use Rattle.board_fields.specs.Hash.{badHash, badHashOf, hashSize}
+use Rattle.board_fields.specs.Heads.{badMapHead, badBoardHead, badPromSigHead}
+use Rattle.board_fields.specs.Inside.{badInside}
+use Rattle.board_fields.specs.Map.{badMap, badMapField, badBoardType}
+use Rattle.board_fields.specs.Reserved.{reservedUsed}
+use Rattle.board_layout.specs.Layout.{shapeAt, endAt, round16, next, mapAt, boardAt, laterAt, records}
+use Rattle.board_layout.specs.Shapes.{listedShape, shapeOf}
+use Rattle.board_records.specs.Records.{badMapRecord}
+use Rattle.board_rules.specs.Judged.{judged}
+use Rattle.board_rules.specs.Rules.{rule20, rule21, rule22, rule23, rule24, rule25, rule26, rule27, rule28, rule29, rule30, rule31, rule32, rule33, misplaced, gapUsed, expected, outOfOrder, promSigAt, covered, checkOver}
+use Rattle.chain.specs.Chain.{visit, chain}
+use Rattle.chain.specs.Fill.{tab}
+use Rattle.chain.specs.First.{first}
+use Rattle.crc.specs.Crc32.{crc32, shift, shifts, step32}
+use Rattle.kinds.specs.Kinds.{all, full, bare}
+use Rattle.octets.specs.Bytes.{le16, le32, le64}
+use Rattle.octets.specs.Label.{isText, isLabelText, textEnd, badLabel}
+use Rattle.octets.specs.Runs.{nonzero}
+use Rattle.verdict.specs.Verdict.{refusal}
+use Rattle.verdict.specs.declared.Judged.{Judged}
+use Rattle.verdict.specs.declared.Judged.the-variants.{Accepted}
+
+-- ---- parts of an image
+zeros : ℕ → List ℕ
+zeros zero = []
+zeros (suc n) = 0 ∷ zeros n
+
+-- the four bytes of a number
+abbrev four : ℕ → List ℕ
+four n = n % 256 ∷ n / 256 % 256 ∷ n / 65536 % 256 ∷ n / 16777216 % 256 ∷ []
+
+-- a generic head of version 1.0
+abbrev head : List ℕ → ℕ → List ℕ
+head signature length = signature ++ (1 ∷ 0 ∷ 0 ∷ 0 ∷ four length)
+
+-- $Eeprom$, Version 4
+abbrev header : ℕ → ℕ → ℕ → List ℕ
+header end check covers =
+    head (0x24 ∷ 0x45 ∷ 0x65 ∷ 0x70 ∷ 0x72 ∷ 0x6F ∷ 0x6D ∷ 0x24 ∷ []) 0x30 ++ four end ++ four check ++ four covers ++ four 4 ++ zeros 16
+
+-- $EeprMap: PartLabel "rig", BlkLength and PartSize 4,096, PageSize 32, Master 1; one record "top1" at address 50h
+abbrev eeprMap : ℕ → List ℕ
+eeprMap speed =
+    head (0x24 ∷ 0x45 ∷ 0x65 ∷ 0x70 ∷ 0x72 ∷ 0x4D ∷ 0x61 ∷ 0x70 ∷ []) 0x50
+    ++ (0x72 ∷ 0x69 ∷ 0x67 ∷ 0x24 ∷ zeros 12) ++ four 4096 ++ (32 ∷ 0 ∷ []) ++ four 4096 ++ (0 ∷ 1 ∷ speed ∷ zeros 3)
+    ++ (0x74 ∷ 0x6F ∷ 0x70 ∷ 0x31 ∷ 0x24 ∷ zeros 11) ++ four 0x20 ++ four 0 ++ (0x50 ∷ zeros 7)
+
+-- $BrdInfo: ManuName "Gwejlusa", BrdName "rig", BrdSerial "0001", BoardId 1, FabId 2, EcId 3
+abbrev brdInfo : ℕ → ℕ → List ℕ
+brdInfo length type =
+    head (0x24 ∷ 0x42 ∷ 0x72 ∷ 0x64 ∷ 0x49 ∷ 0x6E ∷ 0x66 ∷ 0x6F ∷ []) length
+    ++ (0x47 ∷ 0x77 ∷ 0x65 ∷ 0x6A ∷ 0x6C ∷ 0x75 ∷ 0x73 ∷ 0x61 ∷ zeros 8) ++ (0x72 ∷ 0x69 ∷ 0x67 ∷ zeros 13)
+    ++ (0x30 ∷ 0x30 ∷ 0x30 ∷ 0x31 ∷ zeros 12) ++ four 1 ++ four 2 ++ four 3 ++ (type ∷ zeros 19)
+
+-- an image, with what follows the board structure
+abbrev image : ℕ → ℕ → ℕ → List ℕ → List ℕ
+image end check covers more = header end check covers ++ eeprMap 2 ++ brdInfo 0x60 0 ++ more
+
+-- $Logo$ of this Length, with this first reserved byte
+abbrev logo : ℕ → ℕ → List ℕ
+logo length used = head (0x24 ∷ 0x4C ∷ 0x6F ∷ 0x67 ∷ 0x6F ∷ 0x24 ∷ 0 ∷ 0 ∷ []) length ++ (used ∷ zeros 15)
+
+-- $Fan, which no list has, of Length 18h
+abbrev fan : List ℕ
+fan = head (0x24 ∷ 0x46 ∷ 0x61 ∷ 0x6E ∷ zeros 4) 0x18 ++ (1 ∷ 2 ∷ 3 ∷ 4 ∷ 5 ∷ 6 ∷ 7 ∷ 8 ∷ [])
+
+-- $PromSig of type 1, MD5: sixteen bytes of hash
+abbrev promSig : ℕ → List ℕ
+promSig type =
+    head (0x24 ∷ 0x50 ∷ 0x72 ∷ 0x6F ∷ 0x6D ∷ 0x53 ∷ 0x69 ∷ 0x67 ∷ []) 0x30 ++ (type ∷ zeros 15)
+    ++ (0xEE ∷ 0xEE ∷ 0xEE ∷ 0xEE ∷ 0xEE ∷ 0xEE ∷ 0xEE ∷ 0xEE ∷ 0xEE ∷ 0xEE ∷ 0xEE ∷ 0xEE ∷ 0xEE ∷ 0xEE ∷ 0xEE ∷ 0xEE ∷ [])
+
+-- an image, and what the full list says of it
+pub record Row : Type 0 where
+  pub image : List ℕ
+  pub answer : Judged
+
+abbrev row : List ℕ → Judged → Row
+row s j = record { image = s; answer = j }
+
+-- ---- rules 20 to 26, which come before the check
+abbrev early : List Row
+early =
+    -- 20: nothing lent, and a byte too few
+    row [] (refusal 20 0)
+    ∷ row (zeros 0x2F) (refusal 20 0)
+    -- 21: another signature
+    ∷ row (zeros 0x30) (refusal 21 0)
+    -- 22: StructLen is a byte too few, and above what is lent
+    ∷ row (image 0x2F 0 0 []) (refusal 22 0x10)
+    ∷ row (image 0xE1 0 0 []) (refusal 22 0x10)
+    -- 23: no '$' where the fourth structure is due
+    ∷ row (image 0xF0 0 0 (zeros 16)) (refusal 23 0xE0)
+    -- 23: a structure ends at F8h and StructLen is FAh: another is due at 100h, past StructLen
+    ∷ row (image 0xFA 0 0 (fan ++ zeros 8)) (refusal 23 0x100)
+    -- 23: the same where StructLen is the rounded end
+    ∷ row (image 0x100 0 0 (fan ++ zeros 8)) (refusal 23 0x100)
+    -- 24: a byte between structures
+    ∷ row (image 0x120 0 0 (fan ++ (0 ∷ 0 ∷ 7 ∷ zeros 5) ++ logo 0x20 0)) (refusal 24 0xFA)
+    -- 25: nothing after the header, a second map, `$PromSig` before another structure
+    ∷ row (header 0x30 0 0) (refusal 25 0x30)
+    ∷ row (image 0x130 0 0 (eeprMap 2)) (refusal 25 0xE0)
+    ∷ row (image 0x130 0 0 (promSig 1 ++ logo 0x20 0)) (refusal 25 0xE0)
+    -- 26: the board structure has a byte too many
+    ∷ row (header 0xE1 0 0 ++ eeprMap 2 ++ brdInfo 0x61 0 ++ (0 ∷ [])) (refusal 26 0x80)
+    ∷ []
+
+early-hold : map (λ (r : Row). judged full (r .image)) early ≡ map (λ (r : Row). r .answer) early
+unfolding zeros judged rule20 rule21 rule22 rule23 rule24 rule25 rule26 rule27 rule28 rule29 rule30 rule31 rule32 rule33 misplaced gapUsed expected outOfOrder promSigAt covered checkOver badMapHead badBoardHead badPromSigHead badHash badHashOf hashSize badMap badMapField badMapRecord badBoardType reservedUsed badInside shapeAt shapeOf listedShape endAt round16 next mapAt boardAt laterAt records visit chain first tab le16 le32 le64 nonzero isText isLabelText textEnd badLabel all
+early-hold = refl
+
+-- ---- rule 27, and acceptance
+abbrev checked : List Row
+checked =
+    row (image 0xE0 0x971449AD 0xE0 []) (Accepted 3)
+    -- bytes lent past StructLen
+    ∷ row (image 0xE0 0x971449AD 0xE0 (1 ∷ 2 ∷ 3 ∷ [])) (Accepted 3)
+    -- 27: one bit of Crc32; a CrcLength that Crc32 fits
+    ∷ row (image 0xE0 0x971449AC 0xE0 []) (refusal 27 0x14)
+    ∷ row (image 0xE0 0xAB712540 0xE1 []) (refusal 27 0x18)
+    -- the check covers `$PromSig` up to EepromSig; 27: the check over EepromSig too
+    ∷ row (image 0x110 0x6519E838 0x100 (promSig 1)) (Accepted 4)
+    ∷ row (image 0x110 0x6F8BA61D 0x110 (promSig 1)) (refusal 27 0x14)
+    ∷ []
+
+checked-hold : map (λ (r : Row). judged full (r .image)) checked ≡ map (λ (r : Row). r .answer) checked
+unfolding zeros judged rule20 rule21 rule22 rule23 rule24 rule25 rule26 rule27 rule28 rule29 rule30 rule31 rule32 rule33 misplaced gapUsed expected outOfOrder promSigAt covered checkOver badMapHead badBoardHead badPromSigHead badHash badHashOf hashSize badMap badMapField badMapRecord badBoardType reservedUsed badInside shapeAt shapeOf listedShape endAt round16 next mapAt boardAt laterAt records visit chain first tab le16 le32 le64 nonzero isText isLabelText textEnd badLabel all crc32 shift shifts step32
+checked-hold = refl
+
+-- ---- rules 30 and 31
+abbrev fields : List Row
+fields =
+    -- 30: Speed 4
+    row (header 0xE0 0x433A538C 0xE0 ++ eeprMap 4 ++ brdInfo 0x60 0) (refusal 30 0x5C)
+    -- 31: BoardType 2
+    ∷ row (header 0xE0 0x5DDA3F21 0xE0 ++ eeprMap 2 ++ brdInfo 0x60 2) (refusal 31 0xCC)
+    ∷ []
+
+fields-hold : map (λ (r : Row). judged full (r .image)) fields ≡ map (λ (r : Row). r .answer) fields
+unfolding zeros judged rule20 rule21 rule22 rule23 rule24 rule25 rule26 rule27 rule28 rule29 rule30 rule31 rule32 rule33 misplaced gapUsed expected outOfOrder promSigAt covered checkOver badMapHead badBoardHead badPromSigHead badHash badHashOf hashSize badMap badMapField badMapRecord badBoardType reservedUsed badInside shapeAt shapeOf listedShape endAt round16 next mapAt boardAt laterAt records visit chain first tab le16 le32 le64 nonzero isText isLabelText textEnd badLabel all crc32 shift shifts step32
+fields-hold = refl
+
+-- ---- rules 32 and 33 on a structure that the full list knows, and the bare list does not
+abbrev known : List Row
+known =
+    row (image 0x100 0x085BAD6B 0x100 (logo 0x20 0)) (Accepted 4)
+    -- 32: a reserved byte
+    ∷ row (image 0x100 0xA6333CFA 0x100 (logo 0x20 1)) (refusal 32 0xF0)
+    -- 33: under its fixed part, and then its reserved field is not read
+    ∷ row (image 0xF8 0xF9BEC7BA 0xF8 (logo 0x18 0)) (refusal 33 0xE0)
+    ∷ []
+
+known-hold : map (λ (r : Row). judged full (r .image)) known ≡ map (λ (r : Row). r .answer) known
+unfolding zeros judged rule20 rule21 rule22 rule23 rule24 rule25 rule26 rule27 rule28 rule29 rule30 rule31 rule32 rule33 misplaced gapUsed expected outOfOrder promSigAt covered checkOver badMapHead badBoardHead badPromSigHead badHash badHashOf hashSize badMap badMapField badMapRecord badBoardType reservedUsed badInside shapeAt shapeOf listedShape endAt round16 next mapAt boardAt laterAt records visit chain first tab le16 le32 le64 nonzero isText isLabelText textEnd badLabel all crc32 shift shifts step32
+known-hold = refl
+
+not-known-hold : map (λ (r : Row). judged bare (r .image)) known ≡ Accepted 4 ∷ Accepted 4 ∷ Accepted 4 ∷ []
+unfolding zeros judged rule20 rule21 rule22 rule23 rule24 rule25 rule26 rule27 rule28 rule29 rule30 rule31 rule32 rule33 misplaced gapUsed expected outOfOrder promSigAt covered checkOver badMapHead badBoardHead badPromSigHead badHash badHashOf hashSize badMap badMapField badMapRecord badBoardType reservedUsed badInside shapeAt shapeOf listedShape endAt round16 next mapAt boardAt laterAt records visit chain first tab le16 le32 le64 nonzero isText isLabelText textEnd badLabel all crc32 shift shifts step32
+not-known-hold = refl

@@ -1,0 +1,6 @@
+-- The definitions that the contracts cite, examples of them, and laws that other crates may cite. Assumes nothing.
+pub mod Rules
+pub mod Judged
+pub mod Tests
+pub mod Examples
+pub mod laws

@@ -1,0 +1,14 @@
+-- What is proved of the definitions. Assumes nothing.
+
+pub mod Order
+pub mod Walk
+pub mod Heads
+pub mod Accepted
+pub mod Shorter
+pub mod Tables
+pub mod Same
+pub mod Labelled
+pub mod Records
+pub mod Structure
+pub mod Fields
+pub mod Smallest
