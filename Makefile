@@ -13,12 +13,15 @@ test: ## the gate: prove everything from nothing, try the must-fail edits, run t
 check: ## prove what has changed since it was last proved, and run the programs
 	@rt check
 
-list: ## list the tiny image in a file: make list IMAGE=samples/case4.bin
+list: ## list the image in a file: make list IMAGE=samples/case4.bin (FORMAT=tiny or FORMAT=board; else its first byte tells)
 	@test -n "$(IMAGE)" || { echo "list: which file? For example: make list IMAGE=samples/case4.bin"; exit 1; }
 	@test -f "$(IMAGE)" && test -r "$(IMAGE)" || { echo "list: $(IMAGE) is no file that can be read"; exit 1; }
+	@case "$(FORMAT)" in ""|tiny|board) ;; *) echo "list: FORMAT is tiny or board"; exit 1 ;; esac
 	@mkdir -p target
-	@rt check tiny_list >target/list.log 2>&1 || { cat target/list.log; exit 1; }
-	@target/bin/tiny_list <"$(IMAGE)"
+	@format="$(FORMAT)"; \
+	if test -z "$$format"; then case "$$(od -An -tx1 -N1 "$(IMAGE)")" in *24*) format=board ;; *) format=tiny ;; esac; fi; \
+	rt check $${format}_list >target/list.log 2>&1 || { cat target/list.log; exit 1; }; \
+	target/bin/$${format}_list <"$(IMAGE)"
 
 write: ## write a tiny image: make write REQUEST='12; 10 01 00; 74 6F 70 B1' (buffer; run; pool)
 	@test -n "$$REQUEST" || { echo "write: what? For example: make write REQUEST='12; 10 01 00; 74 6F 70 B1'"; exit 1; }
@@ -26,10 +29,10 @@ write: ## write a tiny image: make write REQUEST='12; 10 01 00; 74 6F 70 B1' (bu
 	@rt check tiny_write >target/write.log 2>&1 || { cat target/write.log; exit 1; }
 	@printf '%s\n' "$$REQUEST" | target/bin/tiny_write
 
-compare: ## compare with a reader and a writer in C: make compare IMAGES=20000 SEED=1
+compare: ## compare with readers and a writer in C: make compare IMAGES=20000 SEED=1 BOARDS=12000
 	@mkdir -p target
-	@rt check tiny_list tiny_answers tiny_write >target/compare.log 2>&1 || { cat target/compare.log; exit 1; }
-	@python3 tests/run.py $(or $(IMAGES),20000) $(or $(SEED),1)
+	@rt check tiny_list tiny_answers tiny_write board_list board_answers >target/compare.log 2>&1 || { cat target/compare.log; exit 1; }
+	@python3 tests/run.py $(or $(IMAGES),20000) $(or $(SEED),1) $(or $(BOARDS),12000)
 
 bench: ## time the CRCs and the judge of board images against zlib, and CRC-8 against a plain C loop (no test)
 	@command -v $(CC) >/dev/null || { echo "bench: no C compiler: $(CC) is not found"; exit 1; }

@@ -3,4 +3,5 @@ pub mod Items
 pub mod Records
 pub mod Answers
 pub mod Values
+pub mod Examples
 pub mod laws

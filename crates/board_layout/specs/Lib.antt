@@ -2,4 +2,5 @@
 pub mod Places
 pub mod Shapes
 pub mod Layout
+pub mod Examples
 pub mod laws

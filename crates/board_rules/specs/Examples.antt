@@ -26,51 +26,51 @@ use Rattle.verdict.specs.declared.Judged.{Judged}
 use Rattle.verdict.specs.declared.Judged.the-variants.{Accepted}
 
 -- ---- parts of an image
-zeros : ℕ → List ℕ
+unfoldable pub zeros : ℕ → List ℕ
 zeros zero = []
 zeros (suc n) = 0 ∷ zeros n
 
 -- the four bytes of a number
-abbrev four : ℕ → List ℕ
+abbrev pub four : ℕ → List ℕ
 four n = n % 256 ∷ n / 256 % 256 ∷ n / 65536 % 256 ∷ n / 16777216 % 256 ∷ []
 
 -- a generic head of version 1.0
-abbrev head : List ℕ → ℕ → List ℕ
+abbrev pub head : List ℕ → ℕ → List ℕ
 head signature length = signature ++ (1 ∷ 0 ∷ 0 ∷ 0 ∷ four length)
 
 -- $Eeprom$, Version 4
-abbrev header : ℕ → ℕ → ℕ → List ℕ
+abbrev pub header : ℕ → ℕ → ℕ → List ℕ
 header end check covers =
     head (0x24 ∷ 0x45 ∷ 0x65 ∷ 0x70 ∷ 0x72 ∷ 0x6F ∷ 0x6D ∷ 0x24 ∷ []) 0x30 ++ four end ++ four check ++ four covers ++ four 4 ++ zeros 16
 
 -- $EeprMap: PartLabel "rig", BlkLength and PartSize 4,096, PageSize 32, Master 1; one record "top1" at address 50h
-abbrev eeprMap : ℕ → List ℕ
+abbrev pub eeprMap : ℕ → List ℕ
 eeprMap speed =
     head (0x24 ∷ 0x45 ∷ 0x65 ∷ 0x70 ∷ 0x72 ∷ 0x4D ∷ 0x61 ∷ 0x70 ∷ []) 0x50
     ++ (0x72 ∷ 0x69 ∷ 0x67 ∷ 0x24 ∷ zeros 12) ++ four 4096 ++ (32 ∷ 0 ∷ []) ++ four 4096 ++ (0 ∷ 1 ∷ speed ∷ zeros 3)
     ++ (0x74 ∷ 0x6F ∷ 0x70 ∷ 0x31 ∷ 0x24 ∷ zeros 11) ++ four 0x20 ++ four 0 ++ (0x50 ∷ zeros 7)
 
 -- $BrdInfo: ManuName "Gwejlusa", BrdName "rig", BrdSerial "0001", BoardId 1, FabId 2, EcId 3
-abbrev brdInfo : ℕ → ℕ → List ℕ
+abbrev pub brdInfo : ℕ → ℕ → List ℕ
 brdInfo length type =
     head (0x24 ∷ 0x42 ∷ 0x72 ∷ 0x64 ∷ 0x49 ∷ 0x6E ∷ 0x66 ∷ 0x6F ∷ []) length
     ++ (0x47 ∷ 0x77 ∷ 0x65 ∷ 0x6A ∷ 0x6C ∷ 0x75 ∷ 0x73 ∷ 0x61 ∷ zeros 8) ++ (0x72 ∷ 0x69 ∷ 0x67 ∷ zeros 13)
     ++ (0x30 ∷ 0x30 ∷ 0x30 ∷ 0x31 ∷ zeros 12) ++ four 1 ++ four 2 ++ four 3 ++ (type ∷ zeros 19)
 
 -- an image, with what follows the board structure
-abbrev image : ℕ → ℕ → ℕ → List ℕ → List ℕ
+abbrev pub image : ℕ → ℕ → ℕ → List ℕ → List ℕ
 image end check covers more = header end check covers ++ eeprMap 2 ++ brdInfo 0x60 0 ++ more
 
 -- $Logo$ of this Length, with this first reserved byte
-abbrev logo : ℕ → ℕ → List ℕ
+abbrev pub logo : ℕ → ℕ → List ℕ
 logo length used = head (0x24 ∷ 0x4C ∷ 0x6F ∷ 0x67 ∷ 0x6F ∷ 0x24 ∷ 0 ∷ 0 ∷ []) length ++ (used ∷ zeros 15)
 
 -- $Fan, which no list has, of Length 18h
-abbrev fan : List ℕ
+abbrev pub fan : List ℕ
 fan = head (0x24 ∷ 0x46 ∷ 0x61 ∷ 0x6E ∷ zeros 4) 0x18 ++ (1 ∷ 2 ∷ 3 ∷ 4 ∷ 5 ∷ 6 ∷ 7 ∷ 8 ∷ [])
 
 -- $PromSig of type 1, MD5: sixteen bytes of hash
-abbrev promSig : ℕ → List ℕ
+abbrev pub promSig : ℕ → List ℕ
 promSig type =
     head (0x24 ∷ 0x50 ∷ 0x72 ∷ 0x6F ∷ 0x6D ∷ 0x53 ∷ 0x69 ∷ 0x67 ∷ []) 0x30 ++ (type ∷ zeros 15)
     ++ (0xEE ∷ 0xEE ∷ 0xEE ∷ 0xEE ∷ 0xEE ∷ 0xEE ∷ 0xEE ∷ 0xEE ∷ 0xEE ∷ 0xEE ∷ 0xEE ∷ 0xEE ∷ 0xEE ∷ 0xEE ∷ 0xEE ∷ 0xEE ∷ [])

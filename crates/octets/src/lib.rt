@@ -2,7 +2,8 @@
 // Every function is total: a byte past the end of the image reads as 0, so that no caller owes a bound.
 use chain::Found;
 ghost use mathlib.Core.Path.{_≡_};
-ghost use Prim.Native.Nat.{_+_};
+ghost use Prim.Native.Nat.{_+_, _<_};
+ghost use lib.ListN.{length};
 ghost use Rattle.octets.specs.Bytes.{byte, le16, le32, le64};
 ghost use Rattle.octets.specs.Put.{put};
 ghost use Rattle.octets.specs.Runs.{sixAt, eightAt, sixteenAt, difference, sameRun, nonzero};
@@ -79,6 +80,14 @@ pub fn byte_at(s: &[u8], at: usize) -> u8
     0
 }
 
+// The byte at a place within the image.
+fn within(s: &[u8], at: usize) -> u32
+    requires { ⌜ at < length (now s) ⌝ }
+    ensures { λ r. ⌜ (r ≡ byte (now (s .entry)) at) × (r < 256) ⌝ }
+{
+    s[at] as u32
+}
+
 // The little-endian number of two bytes.
 pub fn le16_at(s: &[u8], at: usize) -> u16
     ensures { λ r. ⌜ r ≡ le16 (now (s .entry)) at ⌝ }
@@ -88,31 +97,32 @@ pub fn le16_at(s: &[u8], at: usize) -> u16
     low + 256 * high
 }
 
-// The little-endian number of four bytes.
+// The little-endian number of four bytes. The compiler makes one load of four that lie within, unless both ways begin with the same byte; so
+// the other way, at the end of the image, begins with the high half.
 pub fn le32_at(s: &[u8], at: usize) -> u32
     ensures { λ r. ⌜ r ≡ le32 (now (s .entry)) at ⌝ }
 {
-    let b0 = byte_from(s, at, 0) as u32;
-    let b1 = byte_from(s, at, 1) as u32;
-    let b2 = byte_from(s, at, 2) as u32;
-    let b3 = byte_from(s, at, 3) as u32;
-    b0 + 256 * (b1 + 256 * (b2 + 256 * b3))
+    if at < s.len() {
+        if 4 <= s.len() - at {
+            return within(s, at)
+                + within(s, at + 1) * 256
+                + within(s, at + 2) * 65536
+                + within(s, at + 3) * 16777216;
+        }
+        let high = le16_at(s, at + 2) as u32;
+        return le16_at(s, at) as u32 + high * 65536;
+    }
+    0
 }
 
 // The little-endian number of eight bytes.
 pub fn le64_at(s: &[u8], at: usize) -> u64
     ensures { λ r. ⌜ r ≡ le64 (now (s .entry)) at ⌝ }
 {
-    let b0 = byte_from(s, at, 0) as u64;
-    let b1 = byte_from(s, at, 1) as u64;
-    let b2 = byte_from(s, at, 2) as u64;
-    let b3 = byte_from(s, at, 3) as u64;
-    let b4 = byte_from(s, at, 4) as u64;
-    let b5 = byte_from(s, at, 5) as u64;
-    let b6 = byte_from(s, at, 6) as u64;
-    let b7 = byte_from(s, at, 7) as u64;
-    let high = b4 + 256 * (b5 + 256 * (b6 + 256 * b7));
-    b0 + 256 * (b1 + 256 * (b2 + 256 * (b3 + 256 * high)))
+    if at < s.len() {
+        return le32_at(s, at) as u64 + le32_at(s, at + 4) as u64 * 4294967296;
+    }
+    0
 }
 
 // The six bytes at a place.

@@ -1,13 +1,14 @@
 -- Bytes past the end, runs of bytes, and the bounds of the numbers they spell. Assumes nothing.
-use Prim.Native.Nat.{ℕ, zero, suc, _+_, _-_, _^_, _≤_, _<_}
+use Prim.Native.Nat.{ℕ, zero, suc, _+_, _-_, _*_, _^_, _≤_, _<_}
 use mathlib.Core.List.{List, [], _∷_, _++_}
 use mathlib.Core.Logic.{inl, inr}
-use mathlib.Core.Path.{_≡_, sym, ap, _∙_}
-use native.Mathlib.Nat.{pow-suc}
+use mathlib.Core.Path.{_≡_, refl, sym, ap, _∙_}
+use native.Mathlib.Nat.{pow-suc, mul-assoc}
 use native.Mathlib.Omega.{arith}
 use lib.ListN.{length, take, drop, length-append, length-take, length-drop, List·getD-eq-default}
 use lib.Seq.{take-length, take-append-seam, drop-append-seam, getD-take, getD-drop, ext-getD}
 use Rattle.chain.specs.All.{All}
+use Rattle.chain.specs.Fill.{tab}
 use Rattle.chain.specs.laws.Below.{below}
 use Rattle.chain.specs.laws.Fill.{length-tab, getD-tab, tab-agree, tab-append}
 use Rattle.octets.specs.Bytes.{byte, Octets, run, little, le16, le32, le64}
@@ -84,6 +85,40 @@ pub little-below : (l : List ℕ) → Octets l → little l < 256 ^ length l
 little-below [] h = omega arith
 little-below (b ∷ bs) h =
     omega (arith, h zero, little-below bs (λ p. h (suc p)), pow-suc 256 (length bs))
+
+-- the number of the bytes a and then b
+little-append : (a b : List ℕ) → little (a ++ b) ≡ little a + 256 ^ length a * little b
+little-append [] b = omega arith
+little-append (x ∷ a) b =
+    omega (arith, little-append a b, ap (λ (k : ℕ). k * little b) (pow-suc 256 (length a)), mul-assoc 256 (256 ^ length a) (little b))
+
+module _ (s : List ℕ) (p : ℕ) where
+  -- a number of twice n bytes, by its halves
+  halves : (n : ℕ) → little (run s p (n + n)) ≡ little (run s p n) + 256 ^ n * little (run s (p + n) n)
+  halves n = ap little (run-append s p n n) ∙ rw (length-run s p n) at (little-append (run s p n) (run s (p + n) n))
+
+  pub le32-halves : le32 s p ≡ le16 s p + le16 s (p + 2) * 65536
+  unfolding le16 le32
+  le32-halves = omega (arith, halves 2)
+
+  pub le64-halves : le64 s p ≡ le32 s p + le32 s (p + 4) * 4294967296
+  unfolding le32 le64
+  le64-halves = omega (arith, halves 4)
+
+  -- past the end a number is 0
+  run-past : length s ≤ p → (n : ℕ) → little (run s p n) ≡ 0
+  unfolding tab
+  run-past h zero = refl
+  run-past h (suc n) =
+      little-append (run s p n) (byte s (p + n) ∷ []) ∙ rw (run-past h n, byte-past s (p + n) (omega arith)) (omega arith)
+
+  pub le32-past : length s ≤ p → le32 s p ≡ 0
+  unfolding le32
+  le32-past h = run-past h 4
+
+  pub le64-past : length s ≤ p → le64 s p ≡ 0
+  unfolding le64
+  le64-past h = run-past h 8
 
 module _ (s : List ℕ) (octets : Octets s) (p : ℕ) where
   run-below : (n : ℕ) → little (run s p n) < 256 ^ n
