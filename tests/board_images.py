@@ -17,6 +17,8 @@ import random
 import sys
 import zlib
 
+from tiny_images import cycle, refused
+
 FULL = 0x1FFFF
 LONGEST = 65536
 EEPROM, MAP, BOARD, PROMSIG = b"$Eeprom$", b"$EeprMap", b"$BrdInfo", b"$PromSig"
@@ -143,18 +145,6 @@ def with_crc(image, crc):
 
 def good(board):
     return "accepted %d" % len(board.parts)
-
-
-def refused(number, place):
-    return "refused %d %d" % (number, place)
-
-
-def cycle(rnd, variants):
-    """The variants for ever, in a fresh order on every round."""
-    variants = list(variants)
-    while True:
-        rnd.shuffle(variants)
-        yield from variants
 
 
 # ---- good parts of any content ----

@@ -69,7 +69,7 @@ logo length used = head (0x24 ∷ 0x4C ∷ 0x6F ∷ 0x67 ∷ 0x6F ∷ 0x24 ∷ 0
 abbrev pub fan : List ℕ
 fan = head (0x24 ∷ 0x46 ∷ 0x61 ∷ 0x6E ∷ zeros 4) 0x18 ++ (1 ∷ 2 ∷ 3 ∷ 4 ∷ 5 ∷ 6 ∷ 7 ∷ 8 ∷ [])
 
--- $PromSig of type 1, MD5: sixteen bytes of hash
+-- $PromSig of a type, with the sixteen bytes of hash that type 1, MD5, has
 abbrev pub promSig : ℕ → List ℕ
 promSig type =
     head (0x24 ∷ 0x50 ∷ 0x72 ∷ 0x6F ∷ 0x6D ∷ 0x53 ∷ 0x69 ∷ 0x67 ∷ []) 0x30 ++ (type ∷ zeros 15)
@@ -114,7 +114,7 @@ early-hold : map (λ (r : Row). judged full (r .image)) early ≡ map (λ (r : R
 unfolding zeros judged rule20 rule21 rule22 rule23 rule24 rule25 rule26 rule27 rule28 rule29 rule30 rule31 rule32 rule33 misplaced gapUsed expected outOfOrder promSigAt covered checkOver badMapHead badBoardHead badPromSigHead badHash badHashOf hashSize badMap badMapField badMapRecord badBoardType reservedUsed badInside shapeAt shapeOf listedShape endAt round16 next mapAt boardAt laterAt records visit chain first tab le16 le32 le64 nonzero isText isLabelText textEnd badLabel all
 early-hold = refl
 
--- ---- rule 27, and acceptance
+-- ---- rules 27 and 29, and acceptance
 abbrev checked : List Row
 checked =
     row (image 0xE0 0x971449AD 0xE0 []) (Accepted 3)
@@ -126,6 +126,8 @@ checked =
     -- the check covers `$PromSig` up to EepromSig; 27: the check over EepromSig too
     ∷ row (image 0x110 0x6519E838 0x100 (promSig 1)) (Accepted 4)
     ∷ row (image 0x110 0x6F8BA61D 0x110 (promSig 1)) (refusal 27 0x14)
+    -- 29: type 6
+    ∷ row (image 0x110 0x98E0104D 0x100 (promSig 6)) (refusal 29 0xF0)
     ∷ []
 
 checked-hold : map (λ (r : Row). judged full (r .image)) checked ≡ map (λ (r : Row). r .answer) checked

@@ -1,3 +1,4 @@
+-- `lay_pool` meets its contract: the head is put after what the image holds, and the data after the head; without a pool, nothing. Assumes nothing.
 use Prim.Native.Nat.{_+_}
 use mathlib.Core.Bool.{Bool}
 use mathlib.Core.Path.{ap, refl}
@@ -9,8 +10,6 @@ use Rattle.tiny_writer.specs.Building.{poolBytes}
 use Rattle.tiny_writer.specs.laws.Holds.{holds-none, holds-item}
 use Rattle.tiny_writer.specs.laws.Length.{pool-size, pool-given, none-given}
 use Rattle.tiny_writer.proofs.lay_pool.Tie as tie
-
--- `lay_pool` meets its contract: the head is put after what the image holds, and the data after the head; without a pool, nothing. Assumes nothing.
 
 cast-t8 : tie.Need-cast-t8
 cast-t8 c =

@@ -1,5 +1,4 @@
 -- `records::gpio_record_at` meets its contract, field by field. Assumes nothing.
--- `records::gpio_record_at` meets its contract, field by field. Assumes nothing.
 use Prim.Native.Nat.{_+_}
 use Rattle.board.proofs.records.gpio_record_at.Statement.{statement}
 use Rattle.board.proofs.records.gpio_record_at.Tie as tie

@@ -1,5 +1,4 @@
 -- `records::map_record_at` meets its contract, field by field. Assumes nothing.
--- `records::map_record_at` meets its contract, field by field. Assumes nothing.
 use Prim.Native.Nat.{_+_}
 use Rattle.board.proofs.records.map_record_at.Statement.{statement}
 use Rattle.board.proofs.records.map_record_at.Tie as tie
