@@ -5,3 +5,4 @@ pub mod Answers
 pub mod Values
 pub mod Examples
 pub mod laws
+pub mod Instances
