@@ -85,7 +85,7 @@ items : map (itemNumbered full case13) (0 ∷ 1 ∷ 2 ∷ 3 ∷ [])
     })
     ∷ ItemAnswer.Refused beyond
     ∷ []
-unfolding zeros itemNumbered mapRecordNumbered gpioRecordNumbered itemAt restAt eepromAt eeprMapAt brdInfoAt mapRecordAt judged rule20 rule21 rule22 rule23 rule24 rule25 rule26 rule27 rule28 rule29 rule30 rule31 rule32 rule33 misplaced gapUsed expected outOfOrder promSigAt covered checkOver badMapHead badBoardHead badPromSigHead badHash badHashOf hashSize badMap badMapField badMapRecord badBoardType reservedUsed badInside shapeAt shapeOf listedShape endAt round16 next mapAt boardAt laterAt records visit chain first nth tab le16 le32 le64 sixteenAt nonzero isText isLabelText textEnd badLabel all crc32 shift shifts step32
+unfolding itemNumbered mapRecordNumbered gpioRecordNumbered itemAt restAt eepromAt eeprMapAt brdInfoAt mapRecordAt judged rule20 rule21 rule22 rule23 rule24 rule25 rule26 rule27 rule28 rule29 rule30 rule31 rule32 rule33 misplaced gapUsed expected outOfOrder promSigAt covered checkOver badMapHead badBoardHead badPromSigHead badHash badHashOf hashSize badMap badMapField badMapRecord badBoardType reservedUsed badInside shapeAt shapeOf listedShape endAt round16 next mapAt boardAt laterAt records visit chain first nth tab le16 le32 le64 sixteenAt nonzero isText isLabelText textEnd badLabel all crc32 shift shifts step32
 items = refl
 
 -- ---- the one record of the map, and none of number 1; no item holds GPIO data
@@ -98,11 +98,11 @@ records-of-map : map (mapRecordNumbered full case13) (0 ∷ 1 ∷ [])
     })
     ∷ MapRecordAnswer.Refused beyond
     ∷ []
-unfolding zeros itemNumbered mapRecordNumbered gpioRecordNumbered itemAt restAt eepromAt eeprMapAt brdInfoAt mapRecordAt judged rule20 rule21 rule22 rule23 rule24 rule25 rule26 rule27 rule28 rule29 rule30 rule31 rule32 rule33 misplaced gapUsed expected outOfOrder promSigAt covered checkOver badMapHead badBoardHead badPromSigHead badHash badHashOf hashSize badMap badMapField badMapRecord badBoardType reservedUsed badInside shapeAt shapeOf listedShape endAt round16 next mapAt boardAt laterAt records visit chain first nth tab le16 le32 le64 sixteenAt nonzero isText isLabelText textEnd badLabel all crc32 shift shifts step32
+unfolding itemNumbered mapRecordNumbered gpioRecordNumbered itemAt restAt eepromAt eeprMapAt brdInfoAt mapRecordAt judged rule20 rule21 rule22 rule23 rule24 rule25 rule26 rule27 rule28 rule29 rule30 rule31 rule32 rule33 misplaced gapUsed expected outOfOrder promSigAt covered checkOver badMapHead badBoardHead badPromSigHead badHash badHashOf hashSize badMap badMapField badMapRecord badBoardType reservedUsed badInside shapeAt shapeOf listedShape endAt round16 next mapAt boardAt laterAt records visit chain first nth tab le16 le32 le64 sixteenAt nonzero isText isLabelText textEnd badLabel all crc32 shift shifts step32
 records-of-map = refl
 
 no-gpio : gpioRecordNumbered full case13 2 0 ≡ GpioRecordAnswer.Refused beyond
-unfolding zeros itemNumbered mapRecordNumbered gpioRecordNumbered itemAt restAt eepromAt eeprMapAt brdInfoAt mapRecordAt judged rule20 rule21 rule22 rule23 rule24 rule25 rule26 rule27 rule28 rule29 rule30 rule31 rule32 rule33 misplaced gapUsed expected outOfOrder promSigAt covered checkOver badMapHead badBoardHead badPromSigHead badHash badHashOf hashSize badMap badMapField badMapRecord badBoardType reservedUsed badInside shapeAt shapeOf listedShape endAt round16 next mapAt boardAt laterAt records visit chain first nth tab le16 le32 le64 sixteenAt nonzero isText isLabelText textEnd badLabel all crc32 shift shifts step32
+unfolding itemNumbered mapRecordNumbered gpioRecordNumbered itemAt restAt eepromAt eeprMapAt brdInfoAt mapRecordAt judged rule20 rule21 rule22 rule23 rule24 rule25 rule26 rule27 rule28 rule29 rule30 rule31 rule32 rule33 misplaced gapUsed expected outOfOrder promSigAt covered checkOver badMapHead badBoardHead badPromSigHead badHash badHashOf hashSize badMap badMapField badMapRecord badBoardType reservedUsed badInside shapeAt shapeOf listedShape endAt round16 next mapAt boardAt laterAt records visit chain first nth tab le16 le32 le64 sixteenAt nonzero isText isLabelText textEnd badLabel all crc32 shift shifts step32
 no-gpio = refl
 
 -- ---- a structure at E0h that the full list knows: its data lie past the reserved bytes; the bare list shows signature, place and length
@@ -115,9 +115,9 @@ shown : itemAt full with-logo 0xE0 ≡ record {
   length = 0x20;
   item = Item.Known (record { major = 1; minor = 0; length = 0x30; fields = Fields.Logo (record { place = 0x100; length = 0x10 }) });
 }
-unfolding zeros itemAt restAt shapeAt shapeOf listedShape le16 le32 le64 tab all
+unfolding itemAt restAt shapeAt shapeOf listedShape le16 le32 le64 tab all
 shown = refl
 
 not-shown : itemAt bare with-logo 0xE0 ≡ record { signature = signatures.logo; place = 0xE0; length = 0x20; item = Item.NotKnown }
-unfolding zeros itemAt shapeAt shapeOf listedShape le16 le32 le64 tab all
+unfolding itemAt shapeAt shapeOf listedShape le16 le32 le64 tab all
 not-shown = refl

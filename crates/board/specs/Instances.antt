@@ -1,12 +1,13 @@
 -- The laws of two images at two images: a reader with the bare list cannot tell them apart, and one with the full list can. So their premise can be met, by
 -- images that differ. Assumes nothing.
-use Prim.Native.Nat.{ℕ, zero, suc, _<_}
+use Prim.Native.Nat.{ℕ}
 use mathlib.Core.Bool.{Bool, true, false, not, _&&_, false≢true}
-use mathlib.Core.List.{List, [], _∷_, _++_}
+use mathlib.Core.List.{List, _++_}
 use mathlib.Core.Logic.{_⊎_, inl, inr}
 use mathlib.Core.Path.{_≡_, refl, sym}
 use native.Mathlib.Omega.{arith}
 use lib.Dec.{eqb, ltb, leb}
+use lib.ListN.{replicate}
 use borrow.Author.Tests.{eqb-true, ltb-true, leb-true}
 use Rattle.board.specs.Answers.{itemNumbered, mapRecordNumbered}
 use Rattle.board.specs.laws.Alike.{InCheck, InsideUnknown, Alike, item-answer-alike, map-answer-alike}
@@ -15,10 +16,10 @@ use Rattle.board_fields.specs.Heads.{badMapHead, badBoardHead, badPromSigHead}
 use Rattle.board_fields.specs.Inside.{badInside}
 use Rattle.board_fields.specs.Map.{badMap, badMapField, badBoardType}
 use Rattle.board_fields.specs.Reserved.{reservedUsed}
-use Rattle.board_layout.specs.Layout.{structLen, shapeAt, endAt, round16, next, mapAt, boardAt, laterAt, records}
+use Rattle.board_layout.specs.Layout.{shapeAt, endAt, round16, next, mapAt, boardAt, laterAt, records}
 use Rattle.board_layout.specs.Shapes.{listedShape, shapeOf}
 use Rattle.board_records.specs.Records.{badMapRecord}
-use Rattle.board_rules.specs.Examples.{zeros, image, logo}
+use Rattle.board_rules.specs.Examples.{image, logo}
 use Rattle.board_rules.specs.Judged.{judged}
 use Rattle.board_rules.specs.Rules.{rule20, rule21, rule22, rule23, rule24, rule25, rule26, rule27, rule28, rule29, rule30, rule31, rule32, rule33, misplaced, gapUsed, expected, outOfOrder, promSigAt, covered, checkOver}
 use Rattle.chain.specs.Chain.{visit, chain, range}
@@ -35,29 +36,24 @@ use Rattle.octets.specs.Runs.{nonzero}
 use Rattle.verdict.specs.Verdict.{refusal}
 use Rattle.verdict.specs.declared.Judged.the-variants.{Accepted}
 
--- n bytes b
-repeated : ℕ → ℕ → List ℕ
-repeated zero b = []
-repeated (suc n) b = b ∷ repeated n b
-
 -- a logo of sixteen bytes, at E0h; and the same image with another logo, and with a reserved byte of its structure in use
 abbrev plain : List ℕ
-plain = image 0x110 0x2AC63D3A 0x110 (logo 0x30 0 ++ repeated 16 0x41)
+plain = image 0x110 0x2AC63D3A 0x110 (logo 0x30 0 ++ replicate 16 0x41)
 
 abbrev changed : List ℕ
-changed = image 0x110 0xC2409AF7 0x110 (logo 0x30 1 ++ repeated 16 0x42)
+changed = image 0x110 0xC2409AF7 0x110 (logo 0x30 1 ++ replicate 16 0x42)
 
 -- the bare list accepts both, the full list one of them
 plain-accepted : judged bare plain ≡ Accepted 4
-unfolding zeros repeated judged rule20 rule21 rule22 rule23 rule24 rule25 rule26 rule27 rule28 rule29 rule30 rule31 rule32 rule33 misplaced gapUsed expected outOfOrder promSigAt covered checkOver badMapHead badBoardHead badPromSigHead badHash badHashOf hashSize badMap badMapField badMapRecord badBoardType reservedUsed badInside shapeAt shapeOf listedShape endAt round16 next mapAt boardAt laterAt records visit chain first tab le16 le32 le64 nonzero isText isLabelText textEnd badLabel all crc32 shift shifts step32
+unfolding judged rule20 rule21 rule22 rule23 rule24 rule25 rule26 rule27 rule28 rule29 rule30 rule31 rule32 rule33 misplaced gapUsed expected outOfOrder promSigAt covered checkOver badMapHead badBoardHead badPromSigHead badHash badHashOf hashSize badMap badMapField badMapRecord badBoardType reservedUsed badInside shapeAt shapeOf listedShape endAt round16 next mapAt boardAt laterAt records visit chain first tab le16 le32 le64 nonzero isText isLabelText textEnd badLabel all crc32 shift shifts step32
 plain-accepted = refl
 
 changed-accepted : judged bare changed ≡ Accepted 4
-unfolding zeros repeated judged rule20 rule21 rule22 rule23 rule24 rule25 rule26 rule27 rule28 rule29 rule30 rule31 rule32 rule33 misplaced gapUsed expected outOfOrder promSigAt covered checkOver badMapHead badBoardHead badPromSigHead badHash badHashOf hashSize badMap badMapField badMapRecord badBoardType reservedUsed badInside shapeAt shapeOf listedShape endAt round16 next mapAt boardAt laterAt records visit chain first tab le16 le32 le64 nonzero isText isLabelText textEnd badLabel all crc32 shift shifts step32
+unfolding judged rule20 rule21 rule22 rule23 rule24 rule25 rule26 rule27 rule28 rule29 rule30 rule31 rule32 rule33 misplaced gapUsed expected outOfOrder promSigAt covered checkOver badMapHead badBoardHead badPromSigHead badHash badHashOf hashSize badMap badMapField badMapRecord badBoardType reservedUsed badInside shapeAt shapeOf listedShape endAt round16 next mapAt boardAt laterAt records visit chain first tab le16 le32 le64 nonzero isText isLabelText textEnd badLabel all crc32 shift shifts step32
 changed-accepted = refl
 
 changed-refused : judged full changed ≡ refusal 32 0xF0
-unfolding zeros repeated judged rule20 rule21 rule22 rule23 rule24 rule25 rule26 rule27 rule28 rule29 rule30 rule31 rule32 rule33 misplaced gapUsed expected outOfOrder promSigAt covered checkOver badMapHead badBoardHead badPromSigHead badHash badHashOf hashSize badMap badMapField badMapRecord badBoardType reservedUsed badInside shapeAt shapeOf listedShape endAt round16 next mapAt boardAt laterAt records visit chain first tab le16 le32 le64 nonzero isText isLabelText textEnd badLabel all crc32 shift shifts step32
+unfolding judged rule20 rule21 rule22 rule23 rule24 rule25 rule26 rule27 rule28 rule29 rule30 rule31 rule32 rule33 misplaced gapUsed expected outOfOrder promSigAt covered checkOver badMapHead badBoardHead badPromSigHead badHash badHashOf hashSize badMap badMapField badMapRecord badBoardType reservedUsed badInside shapeAt shapeOf listedShape endAt round16 next mapAt boardAt laterAt records visit chain first tab le16 le32 le64 nonzero isText isLabelText textEnd badLabel all crc32 shift shifts step32
 changed-refused = refl
 
 -- ---- they differ only in Crc32 and inside the structure at E0h
@@ -72,7 +68,7 @@ abbrev elsewhere : ℕ → Bool
 elsewhere q = not (eqb (byte plain q) (byte changed q)) && (not (inCheck q) && not (inLogo q))
 
 none-elsewhere : first (λ q. when (elsewhere q) q) (range 0 0x110) ≡ Nothing
-unfolding zeros repeated first chain visit
+unfolding first chain visit
 none-elsewhere = refl
 
 both : (a b : Bool) → a && b ≡ true → (a ≡ true) × (b ≡ true)
@@ -80,13 +76,13 @@ both true b e = (refl, e)
 both false b e = absurd (false≢true e)
 
 inside : (q : ℕ) → inLogo q ≡ true → InsideUnknown bare plain q
-unfolding zeros repeated shapeAt shapeOf listedShape endAt round16 next nth chain visit tab le16 le32 le64 all
+unfolding shapeAt shapeOf listedShape endAt round16 next nth chain visit tab le16 le32 le64 all
 inside q e =
     let h = both (leb 0xF0 q) (ltb q 0x110) e in
     record { number = 3; place = 0xE0; stands = refl; unknown = refl; past = leb-true 0xF0 q (h .0); before = ltb-true q 0x110 (h .1) }
 
 plain-changed : Alike bare plain changed
-unfolding zeros repeated le32 tab
+unfolding le32 tab
 plain-changed =
     record { length = refl; bytes = λ q h. go q (eqb (byte plain q) (byte changed q)) (inCheck q) (inLogo q) refl refl refl (range-none elsewhere (λ i. i) 0x110 0 none-elsewhere q (omega arith) h) }
   where

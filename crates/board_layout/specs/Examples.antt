@@ -1,8 +1,9 @@
 -- What the definitions give on small examples, by computation: rounding, the walk, tables by signature and VerMajor, records. Assumes nothing.
-use Prim.Native.Nat.{ℕ, zero, suc, _+_, _/_, _%_}
+use Prim.Native.Nat.{ℕ, _+_, _/_, _%_}
 use mathlib.Core.Bool.{true, false}
 use mathlib.Core.List.{List, [], _∷_, _++_, map}
 use mathlib.Core.Path.{_≡_, refl}
+use lib.ListN.{replicate}
 use Rattle.board_layout.specs.Layout.{endAt, round16, next, structures, mapAt, boardAt, laterAt, records}
 use Rattle.board_layout.specs.Shapes.{listedShape, shapeOf, knows}
 use Rattle.board_layout.specs.declared.Records.the-variants.{Gpio}
@@ -11,16 +12,15 @@ use Rattle.chain.specs.Chain.{visit, chain}
 use Rattle.chain.specs.Fill.{tab}
 use Rattle.kinds.specs.Kinds.{all, full, bare}
 use Rattle.kinds.specs.Signatures.{eeprom, promSig, logo, macInfo}
-use Rattle.octets.specs.Bytes.{le16, le32, le64}
+use Rattle.octets.specs.Bytes.{le32}
 
 rounded : map round16 (0x30 ∷ 0x31 ∷ 0x3F ∷ 0x40 ∷ []) ≡ 0x30 ∷ 0x40 ∷ 0x40 ∷ 0x40 ∷ []
 unfolding round16
 rounded = refl
 
 -- ---- a structure of a Length, '$' and zeros, with zeros up to the boundary of 16
-zeros : ℕ → List ℕ
-zeros zero = []
-zeros (suc n) = 0 ∷ zeros n
+abbrev zeros : ℕ → List ℕ
+zeros n = replicate n 0
 
 abbrev head : ℕ → List ℕ
 head length = 0x24 ∷ zeros 11 ++ (length % 256 ∷ length / 256 % 256 ∷ 0 ∷ 0 ∷ [])
@@ -30,15 +30,15 @@ abbrev four : List ℕ
 four = head 0x20 ++ (0x65 ∷ 0 ∷ 0 ∷ 0 ∷ zeros 12) ++ head 0x11 ++ (7 ∷ zeros 15) ++ head 0x10 ++ head 0x15 ++ (1 ∷ 2 ∷ 3 ∷ 4 ∷ 5 ∷ [])
 
 walked : structures four ≡ 0x00 ∷ 0x20 ∷ 0x40 ∷ 0x50 ∷ []
-unfolding zeros le32 tab next round16 chain visit
+unfolding le32 tab next round16 chain visit
 walked = refl
 
 ends : map (endAt four) (structures four) ≡ 0x20 ∷ 0x31 ∷ 0x50 ∷ 0x65 ∷ []
-unfolding zeros le32 tab endAt next round16 chain visit
+unfolding le32 tab endAt next round16 chain visit
 ends = refl
 
 second-third-later : mapAt four ∷ boardAt four ∷ laterAt four ∷ [] ≡ 0x20 ∷ 0x40 ∷ 0x50 ∷ []
-unfolding zeros le32 tab next round16 mapAt boardAt laterAt
+unfolding le32 tab next round16 mapAt boardAt laterAt
 second-third-later = refl
 
 -- ---- tables: the four by their signature, the others only with VerMajor 1; another signature has none
@@ -53,5 +53,5 @@ known = refl
 
 -- ---- GPIO data of two records, 30h bytes each, from 20h on
 two-records : records Gpio (head 0x80) 0 ≡ 0x20 ∷ 0x50 ∷ []
-unfolding zeros le32 tab records endAt chain visit
+unfolding le32 tab records endAt chain visit
 two-records = refl

@@ -1,8 +1,9 @@
 -- The judge's answers by computation: an image of case 13's layout (one record: map at 30h, board at 80h, StructLen E0h), and what one change makes of it.
 -- Further cases are run. Assumes nothing.
-use Prim.Native.Nat.{ℕ, zero, suc, _/_, _%_}
+use Prim.Native.Nat.{ℕ, _/_, _%_}
 use mathlib.Core.List.{List, [], _∷_, _++_, map}
 use mathlib.Core.Path.{_≡_, refl}
+use lib.ListN.{replicate}
 use Rattle.board_fields.specs.Hash.{badHash, badHashOf, hashSize}
 use Rattle.board_fields.specs.Heads.{badMapHead, badBoardHead, badPromSigHead}
 use Rattle.board_fields.specs.Inside.{badInside}
@@ -26,9 +27,8 @@ use Rattle.verdict.specs.declared.Judged.{Judged}
 use Rattle.verdict.specs.declared.Judged.the-variants.{Accepted}
 
 -- ---- parts of an image
-unfoldable pub zeros : ℕ → List ℕ
-zeros zero = []
-zeros (suc n) = 0 ∷ zeros n
+abbrev pub zeros : ℕ → List ℕ
+zeros n = replicate n 0
 
 -- the four bytes of a number
 abbrev pub four : ℕ → List ℕ
@@ -111,7 +111,7 @@ early =
     ∷ []
 
 early-hold : map (λ (r : Row). judged full (r .image)) early ≡ map (λ (r : Row). r .answer) early
-unfolding zeros judged rule20 rule21 rule22 rule23 rule24 rule25 rule26 rule27 rule28 rule29 rule30 rule31 rule32 rule33 misplaced gapUsed expected outOfOrder promSigAt covered checkOver badMapHead badBoardHead badPromSigHead badHash badHashOf hashSize badMap badMapField badMapRecord badBoardType reservedUsed badInside shapeAt shapeOf listedShape endAt round16 next mapAt boardAt laterAt records visit chain first tab le16 le32 le64 nonzero isText isLabelText textEnd badLabel all
+unfolding judged rule20 rule21 rule22 rule23 rule24 rule25 rule26 rule27 rule28 rule29 rule30 rule31 rule32 rule33 misplaced gapUsed expected outOfOrder promSigAt covered checkOver badMapHead badBoardHead badPromSigHead badHash badHashOf hashSize badMap badMapField badMapRecord badBoardType reservedUsed badInside shapeAt shapeOf listedShape endAt round16 next mapAt boardAt laterAt records visit chain first tab le16 le32 le64 nonzero isText isLabelText textEnd badLabel all
 early-hold = refl
 
 -- ---- rules 27 and 29, and acceptance
@@ -131,7 +131,7 @@ checked =
     ∷ []
 
 checked-hold : map (λ (r : Row). judged full (r .image)) checked ≡ map (λ (r : Row). r .answer) checked
-unfolding zeros judged rule20 rule21 rule22 rule23 rule24 rule25 rule26 rule27 rule28 rule29 rule30 rule31 rule32 rule33 misplaced gapUsed expected outOfOrder promSigAt covered checkOver badMapHead badBoardHead badPromSigHead badHash badHashOf hashSize badMap badMapField badMapRecord badBoardType reservedUsed badInside shapeAt shapeOf listedShape endAt round16 next mapAt boardAt laterAt records visit chain first tab le16 le32 le64 nonzero isText isLabelText textEnd badLabel all crc32 shift shifts step32
+unfolding judged rule20 rule21 rule22 rule23 rule24 rule25 rule26 rule27 rule28 rule29 rule30 rule31 rule32 rule33 misplaced gapUsed expected outOfOrder promSigAt covered checkOver badMapHead badBoardHead badPromSigHead badHash badHashOf hashSize badMap badMapField badMapRecord badBoardType reservedUsed badInside shapeAt shapeOf listedShape endAt round16 next mapAt boardAt laterAt records visit chain first tab le16 le32 le64 nonzero isText isLabelText textEnd badLabel all crc32 shift shifts step32
 checked-hold = refl
 
 -- ---- rules 30 and 31
@@ -144,7 +144,7 @@ fields =
     ∷ []
 
 fields-hold : map (λ (r : Row). judged full (r .image)) fields ≡ map (λ (r : Row). r .answer) fields
-unfolding zeros judged rule20 rule21 rule22 rule23 rule24 rule25 rule26 rule27 rule28 rule29 rule30 rule31 rule32 rule33 misplaced gapUsed expected outOfOrder promSigAt covered checkOver badMapHead badBoardHead badPromSigHead badHash badHashOf hashSize badMap badMapField badMapRecord badBoardType reservedUsed badInside shapeAt shapeOf listedShape endAt round16 next mapAt boardAt laterAt records visit chain first tab le16 le32 le64 nonzero isText isLabelText textEnd badLabel all crc32 shift shifts step32
+unfolding judged rule20 rule21 rule22 rule23 rule24 rule25 rule26 rule27 rule28 rule29 rule30 rule31 rule32 rule33 misplaced gapUsed expected outOfOrder promSigAt covered checkOver badMapHead badBoardHead badPromSigHead badHash badHashOf hashSize badMap badMapField badMapRecord badBoardType reservedUsed badInside shapeAt shapeOf listedShape endAt round16 next mapAt boardAt laterAt records visit chain first tab le16 le32 le64 nonzero isText isLabelText textEnd badLabel all crc32 shift shifts step32
 fields-hold = refl
 
 -- ---- rules 32 and 33 on a structure that the full list knows, and the bare list does not
@@ -158,9 +158,9 @@ known =
     ∷ []
 
 known-hold : map (λ (r : Row). judged full (r .image)) known ≡ map (λ (r : Row). r .answer) known
-unfolding zeros judged rule20 rule21 rule22 rule23 rule24 rule25 rule26 rule27 rule28 rule29 rule30 rule31 rule32 rule33 misplaced gapUsed expected outOfOrder promSigAt covered checkOver badMapHead badBoardHead badPromSigHead badHash badHashOf hashSize badMap badMapField badMapRecord badBoardType reservedUsed badInside shapeAt shapeOf listedShape endAt round16 next mapAt boardAt laterAt records visit chain first tab le16 le32 le64 nonzero isText isLabelText textEnd badLabel all crc32 shift shifts step32
+unfolding judged rule20 rule21 rule22 rule23 rule24 rule25 rule26 rule27 rule28 rule29 rule30 rule31 rule32 rule33 misplaced gapUsed expected outOfOrder promSigAt covered checkOver badMapHead badBoardHead badPromSigHead badHash badHashOf hashSize badMap badMapField badMapRecord badBoardType reservedUsed badInside shapeAt shapeOf listedShape endAt round16 next mapAt boardAt laterAt records visit chain first tab le16 le32 le64 nonzero isText isLabelText textEnd badLabel all crc32 shift shifts step32
 known-hold = refl
 
 not-known-hold : map (λ (r : Row). judged bare (r .image)) known ≡ Accepted 4 ∷ Accepted 4 ∷ Accepted 4 ∷ []
-unfolding zeros judged rule20 rule21 rule22 rule23 rule24 rule25 rule26 rule27 rule28 rule29 rule30 rule31 rule32 rule33 misplaced gapUsed expected outOfOrder promSigAt covered checkOver badMapHead badBoardHead badPromSigHead badHash badHashOf hashSize badMap badMapField badMapRecord badBoardType reservedUsed badInside shapeAt shapeOf listedShape endAt round16 next mapAt boardAt laterAt records visit chain first tab le16 le32 le64 nonzero isText isLabelText textEnd badLabel all crc32 shift shifts step32
+unfolding judged rule20 rule21 rule22 rule23 rule24 rule25 rule26 rule27 rule28 rule29 rule30 rule31 rule32 rule33 misplaced gapUsed expected outOfOrder promSigAt covered checkOver badMapHead badBoardHead badPromSigHead badHash badHashOf hashSize badMap badMapField badMapRecord badBoardType reservedUsed badInside shapeAt shapeOf listedShape endAt round16 next mapAt boardAt laterAt records visit chain first tab le16 le32 le64 nonzero isText isLabelText textEnd badLabel all crc32 shift shifts step32
 not-known-hold = refl

@@ -1,5 +1,5 @@
 -- Bytes of an image, and the numbers they spell. An image is a list of numbers below 256. Assumes nothing.
-use Prim.Native.Nat.{ℕ, _+_, _*_, _<_}
+use Prim.Native.Nat.{ℕ, zero, suc, _+_, _*_, _/_, _%_, _<_}
 use mathlib.Core.List.{List, [], _∷_}
 use lib.ListN.{getD}
 use Rattle.chain.specs.Fill.{tab}
@@ -20,6 +20,11 @@ run s p n = tab (λ i. byte s (p + i)) n
 abbrev pub little : List ℕ → ℕ
 little [] = 0
 little (b ∷ bs) = b + 256 * little bs
+
+-- the n bytes that spell a number, the first lowest
+unfoldable pub spelled : ℕ → ℕ → List ℕ
+spelled zero m = []
+spelled (suc n) m = m % 256 ∷ spelled n (m / 256)
 
 -- the number of two, four, eight bytes at place p
 unfoldable pub le16 : List ℕ → ℕ → ℕ

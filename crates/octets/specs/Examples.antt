@@ -8,7 +8,7 @@ use Rattle.chain.specs.Chain.{visit, chain}
 use Rattle.chain.specs.Fill.{tab}
 use Rattle.chain.specs.First.{first}
 use Rattle.chain.specs.declared.Found.the-variants.{At, Nothing}
-use Rattle.octets.specs.Bytes.{byte, le16, le32}
+use Rattle.octets.specs.Bytes.{byte, spelled, le16, le32}
 use Rattle.octets.specs.Cut.{cut}
 use Rattle.octets.specs.Label.{isText, isLabelText, textEnd, badLabel}
 use Rattle.octets.specs.Put.{put}
@@ -22,6 +22,10 @@ number = refl
 number-past : le32 (0x00 ∷ 0x34 ∷ 0x12 ∷ []) 1 ≡ 0x1234
 unfolding le32 tab
 number-past = refl
+
+number-spelled : spelled 4 0x1234 ≡ 0x34 ∷ 0x12 ∷ 0x00 ∷ 0x00 ∷ []
+unfolding spelled
+number-spelled = refl
 
 differing : difference (1 ∷ 2 ∷ 3 ∷ 4 ∷ []) 0 (0 ∷ 1 ∷ 2 ∷ 9 ∷ []) 1 4 ≡ At 2
 unfolding difference first chain visit

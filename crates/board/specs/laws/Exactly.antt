@@ -11,9 +11,8 @@ use lib.ListN.{length, getD}
 use Rattle.board.specs.Answers.{numbered, itemIf, itemNumbered, mapRecord, mapRecordIf, mapRecordNumbered, isGpio, gpioRecordsAt, gpioRecord, gpioRecordIf, gpioRecordNumbered}
 use Rattle.board.specs.Items.{itemAs, itemAt}
 use Rattle.board.specs.Records.{mapRecordAt, gpioRecordAt}
-use Rattle.board.specs.Values.{itemSaid, mapRecordSaid, gpioRecordSaid}
+use Rattle.board.specs.Values.{ItemValues, itemValues, itemSaid, mapRecordSaid, gpioRecordSaid}
 use Rattle.board.specs.declared.Item.{Item}
-use Rattle.board.specs.declared.ShownItem.{ShownItem}
 use Rattle.board_layout.specs.Layout.{shapeAt, structures, mapAt, records}
 use Rattle.board_layout.specs.Shapes.{knows}
 use Rattle.board_layout.specs.declared.Records.the-variants.{Map, Gpio}
@@ -26,6 +25,8 @@ use Rattle.chain.specs.declared.Found.{Found}
 use Rattle.chain.specs.declared.Found.the-variants.{At, Nothing}
 use Rattle.chain.specs.laws.Nth.{nth-below, nth-past}
 use Rattle.kinds.specs.declared.Kinds.{Kinds}
+use Rattle.octets.specs.Bytes.{Octets, run}
+use Rattle.octets.specs.laws.Spelled.{spelled-le64}
 use Rattle.verdict.specs.Said.{says, refused}
 use Rattle.verdict.specs.declared.Judged.the-variants.{Accepted}
 
@@ -58,7 +59,7 @@ module _ (k : Kinds) (s : List ℕ) (c : ℕ) (e : judged k s ≡ Accepted c) wh
   item-accepted n = ap (itemIf k s n) e
 
   -- a number below the count shows the structure of that number
-  pub item-answered : (n : ℕ) → n < c → itemSaid (itemNumbered k s n) ≡ says (itemAt k s (getD (structures s) n 0))
+  pub item-answered : (n : ℕ) → n < c → itemSaid (itemNumbered k s n) ≡ says (itemValues (itemAt k s (getD (structures s) n 0)))
   item-answered n h =
       ap itemSaid (item-accepted n ∙ ap (numbered k s) (nth-below (structures s) n (omega (arith, accepted-count k s c e))))
 
@@ -69,16 +70,21 @@ module _ (k : Kinds) (s : List ℕ) (c : ℕ) (e : judged k s ≡ Accepted c) wh
 
   -- what holds of the item at each place holds of an item that is shown
   pub item-view :
-      (P : ShownItem → Type 0) (n : ℕ) → ((p : ℕ) → nth (structures s) n ≡ At p → P (itemAt k s p))
-      → (v : ShownItem) → itemSaid (itemNumbered k s n) ≡ says v → P v
+      (P : ItemValues → Type 0) (n : ℕ) → ((p : ℕ) → nth (structures s) n ≡ At p → P (itemValues (itemAt k s p)))
+      → (v : ItemValues) → itemSaid (itemNumbered k s n) ≡ says v → P v
   item-view P n h v said = go (nth (structures s) n) refl (ap itemSaid (sym (item-accepted n)) ∙ said)
     where
       go : (f : Found) → nth (structures s) n ≡ f → itemSaid (numbered k s f) ≡ says v → P v
-      go (At p) d x = let z : itemAt k s p ≡ v = cc in subst P z (h p d)
+      go (At p) d x = let z : itemValues (itemAt k s p) ≡ v = cc in subst P z (h p d)
       go Nothing d x = let z : _≡_ {A = ℕ} 0 1 = cc in absurd (omega arith)
 
+  -- its kind is the eight signature bytes at its place
+  pub item-kind : Octets s → (n : ℕ) (v : ItemValues) → itemSaid (itemNumbered k s n) ≡ says v → v .kind ≡ run s (v .place) 8
+  unfolding itemAt
+  item-kind h n = item-view (λ v. v .kind ≡ run s (v .place) 8) n (λ p d. spelled-le64 s p h)
+
   -- an item is not known exactly where the list does not know the structure at its place
-  pub unknown-exactly : (n : ℕ) (v : ShownItem) → itemSaid (itemNumbered k s n) ≡ says v → (v .item ≡ Item.NotKnown) ↔ (knows k (shapeAt s (v .place)) ≡ false)
+  pub unknown-exactly : (n : ℕ) (v : ItemValues) → itemSaid (itemNumbered k s n) ≡ says v → (v .item ≡ Item.NotKnown) ↔ (knows k (shapeAt s (v .place)) ≡ false)
   unfolding itemAt
   unknown-exactly n =
       item-view (λ v. (v .item ≡ Item.NotKnown) ↔ (knows k (shapeAt s (v .place)) ≡ false)) n (λ p d. go p (knows k (shapeAt s p)) refl)

@@ -1,10 +1,10 @@
 -- Two images that agree on the head of a structure have the same signature, versions, Length and table there, the same end, the same next place and the
 -- same places of records. Where heads agree along the walk, the structures lie at the same places. And two images that agree up to StructLen have the
 -- same places whatever they hold: a head that passes StructLen is the last either way. Assumes nothing.
-use Prim.Native.Nat.{ℕ, _+_, _≤_, _<_}
-use mathlib.Core.List.{List, _∷_}
-use mathlib.Core.Logic.{_⊎_, inl, inr}
-use mathlib.Core.Path.{_≡_, sym, ap, ap₂, _∙_}
+use Prim.Native.Nat.{ℕ, _+_, _≤_}
+use mathlib.Core.List.{List}
+use mathlib.Core.Logic.{inl, inr}
+use mathlib.Core.Path.{_≡_, ap, ap₂, _∙_}
 use native.Mathlib.Omega.{arith}
 use Rattle.board_layout.specs.Layout.{signatureAt, majorAt, minorAt, lengthAt, shapeAt, structLen, endAt, round16, covers, next, structures, mapAt, dataOffset, recordSize, records}
 use Rattle.board_layout.specs.Places.{VerMajor, VerMinor, Length, headSize, StructLen}
@@ -16,7 +16,6 @@ use Rattle.chain.specs.Chain.{chain, ahead}
 use Rattle.chain.specs.laws.Agree.{chain-agree, Close, chain-close}
 use Rattle.chain.specs.laws.All.{all-map}
 use Rattle.chain.specs.laws.Below.{below}
-use Rattle.chain.specs.laws.Chain.{chain-end, chain-more, chain-ind}
 use Rattle.chain.specs.laws.Places.{chain-all}
 use Rattle.octets.specs.laws.Same.{Same, same-part, le16-same, le32-same, le64-same}
 

@@ -10,9 +10,8 @@ use Rattle.board_layout.specs.Layout.{endAt}
 use Rattle.board_layout.specs.Places.{BlkLength, MapLabel, MapLength, MapOffset, Address, mapRecordSize, GpioLabel, GpioLength, DataSize, GpioDataType, gpioRecordSize}
 use Rattle.board_layout.specs.declared.Records.{Records}
 use Rattle.board_records.specs.Records.{mapNumber, badMapRecord, dataSizeFits, badGpioRecord, fieldUsed, recordFrom, recordTo, recordUsed}
-use Rattle.chain.specs.First.{checks, orElse, when}
-use Rattle.chain.specs.declared.Found.{Found}
-use Rattle.chain.specs.declared.Found.the-variants.{At, Nothing}
+use Rattle.chain.specs.First.{checks, when}
+use Rattle.chain.specs.declared.Found.the-variants.{Nothing}
 use Rattle.octets.specs.Runs.{nonzero}
 use Rattle.octets.specs.laws.Same.{Same, le32-same, nonzero-same, label-same}
 

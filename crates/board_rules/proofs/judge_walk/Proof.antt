@@ -5,7 +5,6 @@ use Rattle.board_rules.specs.Rules.{rule23, rule24, rule25}
 use Rattle.chain.specs.declared.Found.the-variants.{At, Nothing}
 use borrow.Author.Needs.{needs}
 use mathlib.Core.Path.{_≡_, sym, _∙_}
-use native.Mathlib.Omega.{arith}
 
 first-from-requires : tie.Need-first-from-requires
 first-from-requires c κs = search needs

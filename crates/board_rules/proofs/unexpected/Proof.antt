@@ -1,5 +1,4 @@
 -- `unexpected` meets its contract: by whether the place lies before StructLen, and the signature there. Assumes nothing.
-use mathlib.Core.Path.{ap}
 use borrow.Author.Needs.{needs}
 use borrow.Author.Tests.{eq-eqb, ne-eqb, lt-ltb, le-ltb}
 use Rattle.board_rules.proofs.unexpected.Statement.{statement}
