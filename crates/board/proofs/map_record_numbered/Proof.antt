@@ -43,7 +43,7 @@ enum-told-2 c = search needs
 returns : tie.Need-returns
 unfolding mapRecordNumbered
 returns c =
-    rw (sym (c .before .before .before .before .before .before .judge .ensures) ∙ c .before .before .before .before .enum-told .given .1, rw (c .before .before .before .map-place .ensures) at (sym (c .before .before .record-place .ensures) ∙ c .enum-told2 .given .1))
+    rw (sym (c .before .before .before .before .before .before .judge .ensures) ∙ c .before .before .before .before .enum-told .given .1, rw (c .before .before .before .map-place .ensures) at (rw (c .before .before .record-place .ensures) at (c .enum-told2 .given .1)))
 
 cast-map-record-at : tie.Need-cast-map-record-at
 cast-map-record-at c =
@@ -63,7 +63,7 @@ returns-2 c =
 returns-3 : tie.Need-returns-3
 unfolding mapRecordNumbered
 returns-3 c =
-    rw (sym (c .before .before .before .before .before .before .before .before .judge .ensures) ∙ c .before .before .before .before .before .before .enum-told .given .1, rw (c .before .before .before .before .before .map-place .ensures) at (sym (c .before .before .before .before .record-place .ensures) ∙ c .before .before .at .given .1), c .map-record-at .ensures)
+    rw (sym (c .before .before .before .before .before .before .before .before .judge .ensures) ∙ c .before .before .before .before .before .before .enum-told .given .1, rw (c .before .before .before .before .before .map-place .ensures) at (rw (c .before .before .before .before .record-place .ensures) at (c .before .before .at .given .1)), c .map-record-at .ensures)
 
 pub map-record-numbered-spec : {M : Type 1} → statement M
 map-record-numbered-spec =

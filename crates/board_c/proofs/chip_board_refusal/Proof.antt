@@ -4,7 +4,7 @@ use Rattle.board_c.proofs.chip_board_refusal.Tie as tie
 use Rattle.verdict.specs.Said.{fields, judgedSaid}
 use Rattle.verdict.specs.declared.Judged.{Judged}
 use borrow.Author.Needs.{needs}
-use mathlib.Core.Path.{sym, ap, _∙_}
+use mathlib.Core.Path.{sym, ap}
 
 from-bits-requires : tie.Need-from-bits-requires
 from-bits-requires c κs = search needs
@@ -20,12 +20,12 @@ enum-known-judgement c = search needs
 
 returns : tie.Need-returns
 returns c =
-    let e = rw (c .before .before .before .from-bits .ensures) at (sym (c .before .before .judge .ensures) ∙ c .enum-told .given .1) in
+    let e = rw (c .before .before .before .from-bits .ensures) at (rw (c .before .before .judge .ensures) at (c .enum-told .given .1)) in
     sym (ap (λ (j : Judged). fields (judgedSaid j) .number) e)
 
 returns-2 : tie.Need-returns-2
 returns-2 c =
-    let e = rw (c .before .before .before .before .from-bits .ensures) at (sym (c .before .before .before .judge .ensures) ∙ c .before .judgement .given .1) in
+    let e = rw (c .before .before .before .before .from-bits .ensures) at (rw (c .before .before .before .judge .ensures) at (c .before .judgement .given .1)) in
     sym (ap (λ (j : Judged). fields (judgedSaid j) .number) e)
 
 pub chip-board-refusal-spec : {M : Type 1} → statement M

@@ -27,15 +27,15 @@ returns : tie.Need-returns
 unfolding rule27
 returns c =
     let s = c .before .before .before .before .before .before .before .args .image .now in
-    let check : le32 s 0x14 ≡ checkOver s (covered s) = rw (c .before .before .before .before .before .covered-length .ensures) at (sym (c .before .before .before .before .le32-at .ensures) ∙ c .before .before .if1 .taken ∙ c .before .before .before .check-over .ensures) in
-    let length : le32 s 0x18 ≡ covered s = sym (c .before .le32-at2 .ensures) ∙ c .if2 .taken ∙ c .before .before .before .before .before .covered-length .ensures in
+    let check : le32 s 0x14 ≡ checkOver s (covered s) = rw (c .before .before .before .before .before .covered-length .ensures) at (rw (c .before .before .before .before .le32-at .ensures) at (c .before .before .if1 .taken ∙ c .before .before .before .check-over .ensures)) in
+    let length : le32 s 0x18 ≡ covered s = rw (c .before .le32-at2 .ensures) at (c .if2 .taken ∙ c .before .before .before .before .before .covered-length .ensures) in
     rw (eq-eqb _ _ check, eq-eqb _ _ length)
 
 returns-2 : tie.Need-returns-2
 unfolding rule27
 returns-2 c =
     let s = c .before .before .before .before .before .before .before .args .image .now in
-    let check : le32 s 0x14 ≡ checkOver s (covered s) = rw (c .before .before .before .before .before .covered-length .ensures) at (sym (c .before .before .before .before .le32-at .ensures) ∙ c .before .before .if1 .taken ∙ c .before .before .before .check-over .ensures) in
+    let check : le32 s 0x14 ≡ checkOver s (covered s) = rw (c .before .before .before .before .before .covered-length .ensures) at (rw (c .before .before .before .before .le32-at .ensures) at (c .before .before .if1 .taken ∙ c .before .before .before .check-over .ensures)) in
     rw (eq-eqb _ _ check, ne-eqb (le32 s 0x18) (covered s) (λ e. c .if2 .left (c .before .le32-at2 .ensures ∙ e ∙ sym (c .before .before .before .before .before .covered-length .ensures))))
 
 returns-3 : tie.Need-returns-3

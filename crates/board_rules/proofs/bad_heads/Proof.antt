@@ -44,7 +44,7 @@ unfolding rule26
 returns-2 c =
     let s = c .before .before .before .before .before .before .before .before .before .args .image .now in
     let told = c .enum-told3 .given .1 in
-    let map : badMapHead s (mapAt s) ≡ Nothing = rw (c .before .before .before .before .before .before .before .map-at .ensures) at (sym (c .before .before .before .before .before .before .bad-map-head .ensures) ∙ c .before .before .before .before .enum-told2 .given .1) in
+    let map : badMapHead s (mapAt s) ≡ Nothing = rw (c .before .before .before .before .before .before .before .map-at .ensures) at (rw (c .before .before .before .before .before .before .bad-map-head .ensures) at (c .before .before .before .before .enum-told2 .given .1)) in
     rw (map, rw (c .before .before .before .board-at .ensures) at (sym (c .before .before .bad-board-head .ensures) ∙ told)) told
 
 enum-told-4 : tie.Need-enum-told-4
@@ -63,15 +63,15 @@ returns-3 : tie.Need-returns-3
 unfolding rule26
 returns-3 c =
     let s = c .before .before .before .before .before .before .before .before .before .before .before .before .args .image .now in
-    let map : badMapHead s (mapAt s) ≡ Nothing = rw (c .before .before .before .before .before .before .before .before .before .before .map-at .ensures) at (sym (c .before .before .before .before .before .before .before .before .before .bad-map-head .ensures) ∙ c .before .before .before .before .before .before .before .enum-told2 .given .1) in
-    let board : badBoardHead s (boardAt s) ≡ Nothing = rw (c .before .before .before .before .before .before .board-at .ensures) at (sym (c .before .before .before .before .before .bad-board-head .ensures) ∙ c .before .before .before .enum-told4 .given .1) in
-    let none : promSigAt s ≡ Nothing = sym (c .before .before .prom-sig .ensures) ∙ c .enum-told5 .given .1 in
+    let map : badMapHead s (mapAt s) ≡ Nothing = rw (c .before .before .before .before .before .before .before .before .before .before .map-at .ensures) at (rw (c .before .before .before .before .before .before .before .before .before .bad-map-head .ensures) at (c .before .before .before .before .before .before .before .enum-told2 .given .1)) in
+    let board : badBoardHead s (boardAt s) ≡ Nothing = rw (c .before .before .before .before .before .before .board-at .ensures) at (rw (c .before .before .before .before .before .bad-board-head .ensures) at (c .before .before .before .enum-told4 .given .1)) in
+    let none : promSigAt s ≡ Nothing = rw (c .before .before .prom-sig .ensures) at (c .enum-told5 .given .1) in
     rw (map, board, none)
 
 cast-bad-prom-sig-head : tie.Need-cast-bad-prom-sig-head
 cast-bad-prom-sig-head c =
     let s = c .before .before .before .before .before .before .before .before .before .before .before .before .before .args .image .now in
-    let there : promSigAt s ≡ At (c .before .p .given .0 .0) = sym (c .before .before .before .prom-sig .ensures) ∙ c .before .p .given .1 in
+    let there : promSigAt s ≡ At (c .before .p .given .0 .0) = rw (c .before .before .before .prom-sig .ensures) at (c .before .p .given .1) in
     omega (arith, prom-sig-below s _ there, le32-below s (λ k. omega (arith, c .before .before .before .before .before .before .before .before .before .before .before .before .shared-slice-known .given k)) 0x10)
 
 bad-prom-sig-head-requires : tie.Need-bad-prom-sig-head-requires
@@ -81,9 +81,9 @@ returns-4 : tie.Need-returns-4
 unfolding rule26
 returns-4 c =
     let s = c .before .before .before .before .before .before .before .before .before .before .before .before .before .before .args .image .now in
-    let map : badMapHead s (mapAt s) ≡ Nothing = rw (c .before .before .before .before .before .before .before .before .before .before .before .before .map-at .ensures) at (sym (c .before .before .before .before .before .before .before .before .before .before .before .bad-map-head .ensures) ∙ c .before .before .before .before .before .before .before .before .before .enum-told2 .given .1) in
-    let board : badBoardHead s (boardAt s) ≡ Nothing = rw (c .before .before .before .before .before .before .before .before .board-at .ensures) at (sym (c .before .before .before .before .before .before .before .bad-board-head .ensures) ∙ c .before .before .before .before .before .enum-told4 .given .1) in
-    let there : promSigAt s ≡ At (c .before .before .p .given .0 .0) = sym (c .before .before .before .before .prom-sig .ensures) ∙ c .before .before .p .given .1 in
+    let map : badMapHead s (mapAt s) ≡ Nothing = rw (c .before .before .before .before .before .before .before .before .before .before .before .before .map-at .ensures) at (rw (c .before .before .before .before .before .before .before .before .before .before .before .bad-map-head .ensures) at (c .before .before .before .before .before .before .before .before .before .enum-told2 .given .1)) in
+    let board : badBoardHead s (boardAt s) ≡ Nothing = rw (c .before .before .before .before .before .before .before .before .board-at .ensures) at (rw (c .before .before .before .before .before .before .before .bad-board-head .ensures) at (c .before .before .before .before .before .enum-told4 .given .1)) in
+    let there : promSigAt s ≡ At (c .before .before .p .given .0 .0) = rw (c .before .before .before .before .prom-sig .ensures) at (c .before .before .p .given .1) in
     rw (map, board, there) (c .bad-prom-sig-head .ensures ∙ sym (orElse-nothing _))
 
 pub bad-heads-spec : {M : Type 1} → statement M

@@ -41,7 +41,7 @@ unfolding rule25
 returns-2 c =
     let s = c .before .before .before .before .before .before .before .before .before .args .image .now in
     let told = c .enum-told3 .given .1 in
-    let second : expected s eeprMap (mapAt s) ≡ Nothing = rw (c .before .before .before .before .before .before .before .map-place .ensures) at (sym (c .before .before .before .before .before .before .unexpected .ensures) ∙ c .before .before .before .before .enum-told2 .given .1) in
+    let second : expected s eeprMap (mapAt s) ≡ Nothing = rw (c .before .before .before .before .before .before .before .map-place .ensures) at (rw (c .before .before .before .before .before .before .unexpected .ensures) at (c .before .before .before .before .enum-told2 .given .1)) in
     rw (second, rw (c .before .before .before .board-place .ensures) at (sym (c .before .before .unexpected2 .ensures) ∙ told)) told
 
 enum-told-4 : tie.Need-enum-told-4
@@ -57,9 +57,9 @@ returns-3 : tie.Need-returns-3
 unfolding rule25
 returns-3 c =
     let s = c .before .before .before .before .before .before .before .before .before .before .before .args .image .now in
-    let second : expected s eeprMap (mapAt s) ≡ Nothing = rw (c .before .before .before .before .before .before .before .before .before .map-place .ensures) at (sym (c .before .before .before .before .before .before .before .before .unexpected .ensures) ∙ c .before .before .before .before .before .before .enum-told2 .given .1) in
-    let third : expected s brdInfo (boardAt s) ≡ Nothing = rw (c .before .before .before .before .before .board-place .ensures) at (sym (c .before .before .before .before .unexpected2 .ensures) ∙ c .before .before .enum-told4 .given .1) in
-    rw (second, third) (rw (c .before .later-place .ensures) at (c .first-from .ensures) ∙ sym (orElse-nothing _))
+    let second : expected s eeprMap (mapAt s) ≡ Nothing = rw (c .before .before .before .before .before .before .before .before .before .map-place .ensures) at (rw (c .before .before .before .before .before .before .before .before .unexpected .ensures) at (c .before .before .before .before .before .before .enum-told2 .given .1)) in
+    let third : expected s brdInfo (boardAt s) ≡ Nothing = rw (c .before .before .before .before .before .board-place .ensures) at (rw (c .before .before .before .before .unexpected2 .ensures) at (c .before .before .enum-told4 .given .1)) in
+    rw (second, third, orElse-nothing _) (rw (c .before .later-place .ensures) at (c .first-from .ensures))
 
 pub bad-order-spec : {M : Type 1} → statement M
 bad-order-spec =

@@ -2,7 +2,7 @@
 use Rattle.board_rules.proofs.bad_signature.Statement.{statement}
 use Rattle.board_rules.proofs.bad_signature.Tie as tie
 use borrow.Author.Needs.{needs}
-use mathlib.Core.Path.{_≡_, sym, _∙_}
+use mathlib.Core.Path.{_≡_}
 use native.Mathlib.Omega.{arith}
 use Rattle.board_rules.specs.Rules.{promSigAt, rule29}
 use Rattle.board_rules.specs.laws.Order.{prom-sig-below}
@@ -21,13 +21,13 @@ enum-told c = search needs
 returns : tie.Need-returns
 unfolding rule29
 returns c =
-    let none : promSigAt (c .before .before .before .before .args .image .now) ≡ Nothing = sym (c .before .before .prom-sig .ensures) ∙ c .enum-told .given .1 in
+    let none : promSigAt (c .before .before .before .before .args .image .now) ≡ Nothing = rw (c .before .before .prom-sig .ensures) at (c .enum-told .given .1) in
     rw none
 
 cast-bad-hash : tie.Need-cast-bad-hash
 cast-bad-hash c =
     let s = c .before .before .before .before .before .args .image .now in
-    let there : promSigAt s ≡ At (c .before .p .given .0 .0) = sym (c .before .before .before .prom-sig .ensures) ∙ c .before .p .given .1 in
+    let there : promSigAt s ≡ At (c .before .p .given .0 .0) = rw (c .before .before .before .prom-sig .ensures) at (c .before .p .given .1) in
     omega (arith, prom-sig-below s _ there, le32-below s (λ k. omega (arith, c .before .before .before .before .shared-slice-known .given k)) 0x10)
 
 bad-hash-requires : tie.Need-bad-hash-requires
@@ -36,7 +36,7 @@ bad-hash-requires c κs = search needs
 returns-2 : tie.Need-returns-2
 unfolding rule29
 returns-2 c =
-    let there : promSigAt (c .before .before .before .before .before .before .args .image .now) ≡ At (c .before .before .p .given .0 .0) = sym (c .before .before .before .before .prom-sig .ensures) ∙ c .before .before .p .given .1 in
+    let there : promSigAt (c .before .before .before .before .before .before .args .image .now) ≡ At (c .before .before .p .given .0 .0) = rw (c .before .before .before .before .prom-sig .ensures) at (c .before .before .p .given .1) in
     rw there (c .bad-hash .ensures)
 
 pub bad-signature-spec : {M : Type 1} → statement M

@@ -6,7 +6,7 @@ use Rattle.board_rules.specs.Rules.{rule20, rule21, rule22}
 use Rattle.chain.specs.declared.Found.the-variants.{At, Nothing}
 use borrow.Author.Needs.{needs}
 use borrow.Author.Tests.{lt-ltb, le-ltb}
-use mathlib.Core.Path.{_≡_, sym, _∙_}
+use mathlib.Core.Path.{_≡_}
 use native.Mathlib.Omega.{arith}
 
 refused-requires : tie.Need-refused-requires
@@ -37,7 +37,7 @@ refused-requires-3 c κs = search needs
 returns-3 : tie.Need-returns-3
 unfolding judged rule20
 returns-3 c =
-    let f21 : rule21 (c .before .before .before .before .before .before .before .before .args .image .now) ≡ At (c .before .before .p .given .0 .0) = sym (c .before .before .before .before .bad-header .ensures) ∙ c .before .before .p .given .1 in
+    let f21 : rule21 (c .before .before .before .before .before .before .before .before .args .image .now) ≡ At (c .before .before .p .given .0 .0) = rw (c .before .before .before .before .bad-header .ensures) at (c .before .before .p .given .1) in
     simp (le-ltb _ _ (c .before .before .before .before .before .before .if1 .left), le-ltb _ _ (c .before .before .before .before .before .if2 .left), f21, c .refused3 .ensures)
 
 enum-told : tie.Need-enum-told
@@ -55,7 +55,7 @@ refused-requires-4 c κs = search needs
 returns-4 : tie.Need-returns-4
 unfolding judged rule20 rule22
 returns-4 c =
-    let f21 : rule21 (c .before .before .before .before .before .before .before .before .before .args .image .now) ≡ Nothing = sym (c .before .before .before .before .before .bad-header .ensures) ∙ c .before .before .before .enum-told .given .1 in
+    let f21 : rule21 (c .before .before .before .before .before .before .before .before .before .args .image .now) ≡ Nothing = rw (c .before .before .before .before .before .bad-header .ensures) at (c .before .before .before .enum-told .given .1) in
     simp (le-ltb _ _ (c .before .before .before .before .before .before .before .if1 .left), le-ltb _ _ (c .before .before .before .before .before .before .if2 .left), f21, lt-ltb _ _ (rw (c .before .before .struct-len .ensures) at (c .before .if3 .taken)), c .refused4 .ensures)
 
 refused-requires-5 : tie.Need-refused-requires-5
@@ -64,7 +64,7 @@ refused-requires-5 c κs = search needs
 returns-5 : tie.Need-returns-5
 unfolding judged rule20 rule22
 returns-5 c =
-    let f21 : rule21 (c .before .before .before .before .before .before .before .before .before .before .args .image .now) ≡ Nothing = sym (c .before .before .before .before .before .before .bad-header .ensures) ∙ c .before .before .before .before .enum-told .given .1 in
+    let f21 : rule21 (c .before .before .before .before .before .before .before .before .before .before .args .image .now) ≡ Nothing = rw (c .before .before .before .before .before .before .bad-header .ensures) at (c .before .before .before .before .enum-told .given .1) in
     simp (
       le-ltb _ _ (c .before .before .before .before .before .before .before .before .if1 .left),
       le-ltb _ _ (c .before .before .before .before .before .before .before .if2 .left),
@@ -80,7 +80,7 @@ judge-walk-requires c κs = search needs
 returns-6 : tie.Need-returns-6
 unfolding judged rule20 rule22
 returns-6 c =
-    let f21 : rule21 (c .before .before .before .before .before .before .before .before .before .before .args .image .now) ≡ Nothing = sym (c .before .before .before .before .before .before .bad-header .ensures) ∙ c .before .before .before .before .enum-told .given .1 in
+    let f21 : rule21 (c .before .before .before .before .before .before .before .before .before .before .args .image .now) ≡ Nothing = rw (c .before .before .before .before .before .before .bad-header .ensures) at (c .before .before .before .before .enum-told .given .1) in
     simp (
       le-ltb _ _ (c .before .before .before .before .before .before .before .before .if1 .left),
       le-ltb _ _ (c .before .before .before .before .before .before .before .if2 .left),

@@ -4,7 +4,7 @@ use Rattle.board_rules.proofs.judge_fields.Tie as tie
 use Rattle.board_rules.specs.Rules.{rule29, rule30, rule31}
 use Rattle.chain.specs.declared.Found.the-variants.{At, Nothing}
 use borrow.Author.Needs.{needs}
-use mathlib.Core.Path.{_≡_, sym, _∙_}
+use mathlib.Core.Path.{_≡_}
 
 bad-signature-requires : tie.Need-bad-signature-requires
 bad-signature-requires c κs = search needs
@@ -19,7 +19,7 @@ returns : tie.Need-returns
 unfolding rule30 rule31
 returns c =
     let a = c .before .before .before .before .before .before .args in
-    let f29 : rule29 (a .image .now) ≡ At (c .before .before .p .given .0 .0) = sym (c .before .before .before .before .bad-signature .ensures) ∙ c .before .before .p .given .1 in
+    let f29 : rule29 (a .image .now) ≡ At (c .before .before .p .given .0 .0) = rw (c .before .before .before .before .bad-signature .ensures) at (c .before .before .p .given .1) in
     simp (f29, c .refused .ensures)
 
 enum-told : tie.Need-enum-told
@@ -41,8 +41,8 @@ returns-2 : tie.Need-returns-2
 unfolding rule30 rule31
 returns-2 c =
     let a = c .before .before .before .before .before .before .before .before .before .before .args in
-    let f29 : rule29 (a .image .now) ≡ Nothing = sym (c .before .before .before .before .before .before .before .before .bad-signature .ensures) ∙ c .before .before .before .before .before .before .enum-told .given .1 in
-    let f30 : rule30 (a .image .now) ≡ At (c .before .before .p2 .given .0 .0) = rw (c .before .before .before .before .before .map-at .ensures) at (sym (c .before .before .before .before .bad-map .ensures) ∙ c .before .before .p2 .given .1) in
+    let f29 : rule29 (a .image .now) ≡ Nothing = rw (c .before .before .before .before .before .before .before .before .bad-signature .ensures) at (c .before .before .before .before .before .before .enum-told .given .1) in
+    let f30 : rule30 (a .image .now) ≡ At (c .before .before .p2 .given .0 .0) = rw (c .before .before .before .before .before .map-at .ensures) at (rw (c .before .before .before .before .bad-map .ensures) at (c .before .before .p2 .given .1)) in
     simp (f29, f30, c .refused2 .ensures)
 
 enum-told-2 : tie.Need-enum-told-2
@@ -64,9 +64,9 @@ returns-3 : tie.Need-returns-3
 unfolding rule30 rule31
 returns-3 c =
     let a = c .before .before .before .before .before .before .before .before .before .before .before .before .before .before .args in
-    let f29 : rule29 (a .image .now) ≡ Nothing = sym (c .before .before .before .before .before .before .before .before .before .before .before .before .bad-signature .ensures) ∙ c .before .before .before .before .before .before .before .before .before .before .enum-told .given .1 in
-    let f30 : rule30 (a .image .now) ≡ Nothing = rw (c .before .before .before .before .before .before .before .before .before .map-at .ensures) at (sym (c .before .before .before .before .before .before .before .before .bad-map .ensures) ∙ c .before .before .before .before .before .before .enum-told2 .given .1) in
-    let f31 : rule31 (a .image .now) ≡ At (c .before .before .p3 .given .0 .0) = rw (c .before .before .before .before .before .board-at .ensures) at (sym (c .before .before .before .before .bad-board-type .ensures) ∙ c .before .before .p3 .given .1) in
+    let f29 : rule29 (a .image .now) ≡ Nothing = rw (c .before .before .before .before .before .before .before .before .before .before .before .before .bad-signature .ensures) at (c .before .before .before .before .before .before .before .before .before .before .enum-told .given .1) in
+    let f30 : rule30 (a .image .now) ≡ Nothing = rw (c .before .before .before .before .before .before .before .before .before .map-at .ensures) at (rw (c .before .before .before .before .before .before .before .before .bad-map .ensures) at (c .before .before .before .before .before .before .enum-told2 .given .1)) in
+    let f31 : rule31 (a .image .now) ≡ At (c .before .before .p3 .given .0 .0) = rw (c .before .before .before .before .before .board-at .ensures) at (rw (c .before .before .before .before .bad-board-type .ensures) at (c .before .before .p3 .given .1)) in
     simp (f29, f30, f31, c .refused3 .ensures)
 
 enum-told-3 : tie.Need-enum-told-3
@@ -79,9 +79,9 @@ returns-4 : tie.Need-returns-4
 unfolding rule30 rule31
 returns-4 c =
     let a = c .before .before .before .before .before .before .before .before .before .before .before .before .before .args in
-    let f29 : rule29 (a .image .now) ≡ Nothing = sym (c .before .before .before .before .before .before .before .before .before .before .before .bad-signature .ensures) ∙ c .before .before .before .before .before .before .before .before .before .enum-told .given .1 in
-    let f30 : rule30 (a .image .now) ≡ Nothing = rw (c .before .before .before .before .before .before .before .before .map-at .ensures) at (sym (c .before .before .before .before .before .before .before .bad-map .ensures) ∙ c .before .before .before .before .before .enum-told2 .given .1) in
-    let f31 : rule31 (a .image .now) ≡ Nothing = rw (c .before .before .before .before .board-at .ensures) at (sym (c .before .before .before .bad-board-type .ensures) ∙ c .before .enum-told3 .given .1) in
+    let f29 : rule29 (a .image .now) ≡ Nothing = rw (c .before .before .before .before .before .before .before .before .before .before .before .bad-signature .ensures) at (c .before .before .before .before .before .before .before .before .before .enum-told .given .1) in
+    let f30 : rule30 (a .image .now) ≡ Nothing = rw (c .before .before .before .before .before .before .before .before .map-at .ensures) at (rw (c .before .before .before .before .before .before .before .bad-map .ensures) at (c .before .before .before .before .before .enum-told2 .given .1)) in
+    let f31 : rule31 (a .image .now) ≡ Nothing = rw (c .before .before .before .before .board-at .ensures) at (rw (c .before .before .before .bad-board-type .ensures) at (c .before .enum-told3 .given .1)) in
     simp (f29, f30, f31) (c .judge-known .ensures)
 
 pub judge-fields-spec : {M : Type 1} → statement M

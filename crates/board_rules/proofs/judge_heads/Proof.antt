@@ -4,7 +4,7 @@ use Rattle.board_rules.proofs.judge_heads.Tie as tie
 use Rattle.board_rules.specs.Rules.{rule26, rule27, rule28}
 use Rattle.chain.specs.declared.Found.the-variants.{At, Nothing}
 use borrow.Author.Needs.{needs}
-use mathlib.Core.Path.{_≡_, sym, _∙_}
+use mathlib.Core.Path.{_≡_}
 
 bad-heads-requires : tie.Need-bad-heads-requires
 bad-heads-requires c κs = search needs
@@ -18,7 +18,7 @@ refused-requires c κs = search needs
 returns : tie.Need-returns
 returns c =
     let a = c .before .before .before .before .before .before .args in
-    let f26 : rule26 (a .image .now) ≡ At (c .before .before .p .given .0 .0) = sym (c .before .before .before .before .bad-heads .ensures) ∙ c .before .before .p .given .1 in
+    let f26 : rule26 (a .image .now) ≡ At (c .before .before .p .given .0 .0) = rw (c .before .before .before .before .bad-heads .ensures) at (c .before .before .p .given .1) in
     simp (f26, c .refused .ensures)
 
 enum-told : tie.Need-enum-told
@@ -36,8 +36,8 @@ refused-requires-2 c κs = search needs
 returns-2 : tie.Need-returns-2
 returns-2 c =
     let a = c .before .before .before .before .before .before .before .before .before .args in
-    let f26 : rule26 (a .image .now) ≡ Nothing = sym (c .before .before .before .before .before .before .before .bad-heads .ensures) ∙ c .before .before .before .before .before .enum-told .given .1 in
-    let f27 : rule27 (a .image .now) ≡ At (c .before .before .p2 .given .0 .0) = sym (c .before .before .before .before .bad-check .ensures) ∙ c .before .before .p2 .given .1 in
+    let f26 : rule26 (a .image .now) ≡ Nothing = rw (c .before .before .before .before .before .before .before .bad-heads .ensures) at (c .before .before .before .before .before .enum-told .given .1) in
+    let f27 : rule27 (a .image .now) ≡ At (c .before .before .p2 .given .0 .0) = rw (c .before .before .before .before .bad-check .ensures) at (c .before .before .p2 .given .1) in
     simp (f26, f27, c .refused2 .ensures)
 
 enum-told-2 : tie.Need-enum-told-2
@@ -55,9 +55,9 @@ refused-requires-3 c κs = search needs
 returns-3 : tie.Need-returns-3
 returns-3 c =
     let a = c .before .before .before .before .before .before .before .before .before .before .before .before .args in
-    let f26 : rule26 (a .image .now) ≡ Nothing = sym (c .before .before .before .before .before .before .before .before .before .before .bad-heads .ensures) ∙ c .before .before .before .before .before .before .before .before .enum-told .given .1 in
-    let f27 : rule27 (a .image .now) ≡ Nothing = sym (c .before .before .before .before .before .before .before .bad-check .ensures) ∙ c .before .before .before .before .before .enum-told2 .given .1 in
-    let f28 : rule28 (a .image .now) ≡ At (c .before .before .p3 .given .0 .0) = sym (c .before .before .before .before .ends-late .ensures) ∙ c .before .before .p3 .given .1 in
+    let f26 : rule26 (a .image .now) ≡ Nothing = rw (c .before .before .before .before .before .before .before .before .before .before .bad-heads .ensures) at (c .before .before .before .before .before .before .before .before .enum-told .given .1) in
+    let f27 : rule27 (a .image .now) ≡ Nothing = rw (c .before .before .before .before .before .before .before .bad-check .ensures) at (c .before .before .before .before .before .enum-told2 .given .1) in
+    let f28 : rule28 (a .image .now) ≡ At (c .before .before .p3 .given .0 .0) = rw (c .before .before .before .before .ends-late .ensures) at (c .before .before .p3 .given .1) in
     simp (f26, f27, f28, c .refused3 .ensures)
 
 enum-told-3 : tie.Need-enum-told-3
@@ -69,9 +69,9 @@ judge-fields-requires c κs = search needs
 returns-4 : tie.Need-returns-4
 returns-4 c =
     let a = c .before .before .before .before .before .before .before .before .before .before .before .args in
-    let f26 : rule26 (a .image .now) ≡ Nothing = sym (c .before .before .before .before .before .before .before .before .before .bad-heads .ensures) ∙ c .before .before .before .before .before .before .before .enum-told .given .1 in
-    let f27 : rule27 (a .image .now) ≡ Nothing = sym (c .before .before .before .before .before .before .bad-check .ensures) ∙ c .before .before .before .before .enum-told2 .given .1 in
-    let f28 : rule28 (a .image .now) ≡ Nothing = sym (c .before .before .before .ends-late .ensures) ∙ c .before .enum-told3 .given .1 in
+    let f26 : rule26 (a .image .now) ≡ Nothing = rw (c .before .before .before .before .before .before .before .before .before .bad-heads .ensures) at (c .before .before .before .before .before .before .before .enum-told .given .1) in
+    let f27 : rule27 (a .image .now) ≡ Nothing = rw (c .before .before .before .before .before .before .bad-check .ensures) at (c .before .before .before .before .enum-told2 .given .1) in
+    let f28 : rule28 (a .image .now) ≡ Nothing = rw (c .before .before .before .ends-late .ensures) at (c .before .enum-told3 .given .1) in
     simp (f26, f27, f28) (c .judge-fields .ensures)
 
 pub judge-heads-spec : {M : Type 1} → statement M

@@ -19,7 +19,7 @@ returns : tie.Need-returns
 unfolding rule23 rule24
 returns c =
     let a = c .before .before .before .before .before .before .args in
-    let f23 : rule23 (a .image .now) ≡ At (c .before .before .p .given .0 .0) = sym (c .before .before .before .before .first-from .ensures) ∙ c .before .before .p .given .1 in
+    let f23 : rule23 (a .image .now) ≡ At (c .before .before .p .given .0 .0) = rw (c .before .before .before .before .first-from .ensures) at (c .before .before .p .given .1) in
     simp (f23, c .refused .ensures)
 
 enum-told : tie.Need-enum-told
@@ -38,8 +38,8 @@ returns-2 : tie.Need-returns-2
 unfolding rule23 rule24
 returns-2 c =
     let a = c .before .before .before .before .before .before .before .before .before .args in
-    let f23 : rule23 (a .image .now) ≡ Nothing = sym (c .before .before .before .before .before .before .before .first-from .ensures) ∙ c .before .before .before .before .before .enum-told .given .1 in
-    let f24 : rule24 (a .image .now) ≡ At (c .before .before .p2 .given .0 .0) = sym (c .before .before .before .before .first-from2 .ensures) ∙ c .before .before .p2 .given .1 in
+    let f23 : rule23 (a .image .now) ≡ Nothing = rw (c .before .before .before .before .before .before .before .first-from .ensures) at (c .before .before .before .before .before .enum-told .given .1) in
+    let f24 : rule24 (a .image .now) ≡ At (c .before .before .p2 .given .0 .0) = rw (c .before .before .before .before .first-from2 .ensures) at (c .before .before .p2 .given .1) in
     simp (f23, f24, c .refused2 .ensures)
 
 enum-told-2 : tie.Need-enum-told-2
@@ -58,9 +58,9 @@ returns-3 : tie.Need-returns-3
 unfolding rule23 rule24
 returns-3 c =
     let a = c .before .before .before .before .before .before .before .before .before .before .before .before .args in
-    let f23 : rule23 (a .image .now) ≡ Nothing = sym (c .before .before .before .before .before .before .before .before .before .before .first-from .ensures) ∙ c .before .before .before .before .before .before .before .before .enum-told .given .1 in
-    let f24 : rule24 (a .image .now) ≡ Nothing = sym (c .before .before .before .before .before .before .before .first-from2 .ensures) ∙ c .before .before .before .before .before .enum-told2 .given .1 in
-    let f25 : rule25 (a .image .now) ≡ At (c .before .before .p3 .given .0 .0) = sym (c .before .before .before .before .bad-order .ensures) ∙ c .before .before .p3 .given .1 in
+    let f23 : rule23 (a .image .now) ≡ Nothing = rw (c .before .before .before .before .before .before .before .before .before .before .first-from .ensures) at (c .before .before .before .before .before .before .before .before .enum-told .given .1) in
+    let f24 : rule24 (a .image .now) ≡ Nothing = rw (c .before .before .before .before .before .before .before .first-from2 .ensures) at (c .before .before .before .before .before .enum-told2 .given .1) in
+    let f25 : rule25 (a .image .now) ≡ At (c .before .before .p3 .given .0 .0) = rw (c .before .before .before .before .bad-order .ensures) at (c .before .before .p3 .given .1) in
     simp (f23, f24, f25, c .refused3 .ensures)
 
 enum-told-3 : tie.Need-enum-told-3
@@ -73,9 +73,9 @@ returns-4 : tie.Need-returns-4
 unfolding rule23 rule24
 returns-4 c =
     let a = c .before .before .before .before .before .before .before .before .before .before .before .args in
-    let f23 : rule23 (a .image .now) ≡ Nothing = sym (c .before .before .before .before .before .before .before .before .before .first-from .ensures) ∙ c .before .before .before .before .before .before .before .enum-told .given .1 in
-    let f24 : rule24 (a .image .now) ≡ Nothing = sym (c .before .before .before .before .before .before .first-from2 .ensures) ∙ c .before .before .before .before .enum-told2 .given .1 in
-    let f25 : rule25 (a .image .now) ≡ Nothing = sym (c .before .before .before .bad-order .ensures) ∙ c .before .enum-told3 .given .1 in
+    let f23 : rule23 (a .image .now) ≡ Nothing = rw (c .before .before .before .before .before .before .before .before .before .first-from .ensures) at (c .before .before .before .before .before .before .before .enum-told .given .1) in
+    let f24 : rule24 (a .image .now) ≡ Nothing = rw (c .before .before .before .before .before .before .first-from2 .ensures) at (c .before .before .before .before .enum-told2 .given .1) in
+    let f25 : rule25 (a .image .now) ≡ Nothing = rw (c .before .before .before .bad-order .ensures) at (c .before .enum-told3 .given .1) in
     simp (f23, f24, f25) (c .judge-heads .ensures)
 
 pub judge-walk-spec : {M : Type 1} → statement M

@@ -40,15 +40,15 @@ record-place-requires c κs = search needs
 
 returns-2 : tie.Need-returns-2
 returns-2 c =
-    rw (sym (c .before .before .before .before .before .before .before .before .before .structure-place .ensures) ∙ c .before .before .before .before .before .before .before .p .given .1, rw (c .before .before .before .before .before .shape-at .ensures) at (sym (c .before .before .before .before .is-gpio .ensures) ∙ c .before .before .before .if1 .taken), rw (c .before .before .before .before .before .shape-at .ensures) at (sym (c .before .before .is-known .ensures) ∙ c .before .if2 .taken)) (c .record-place .ensures)
+    rw (sym (c .before .before .before .before .before .before .before .before .before .structure-place .ensures) ∙ c .before .before .before .before .before .before .before .p .given .1, rw (c .before .before .before .before .before .shape-at .ensures) at (rw (c .before .before .before .before .is-gpio .ensures) at (c .before .before .before .if1 .taken)), rw (c .before .before .before .before .before .shape-at .ensures) at (rw (c .before .before .is-known .ensures) at (c .before .if2 .taken))) (c .record-place .ensures)
 
 returns-3 : tie.Need-returns-3
 returns-3 c =
-    rw (sym (c .before .before .before .before .before .before .before .before .structure-place .ensures) ∙ c .before .before .before .before .before .before .p .given .1, rw (c .before .before .before .before .shape-at .ensures) at (sym (c .before .before .before .is-gpio .ensures) ∙ c .before .before .if1 .taken), rw (c .before .before .before .before .shape-at .ensures) at (sym (c .before .is-known .ensures) ∙ c .if2 .left))
+    rw (sym (c .before .before .before .before .before .before .before .before .structure-place .ensures) ∙ c .before .before .before .before .before .before .p .given .1, rw (c .before .before .before .before .shape-at .ensures) at (rw (c .before .before .before .is-gpio .ensures) at (c .before .before .if1 .taken)), rw (c .before .before .before .before .shape-at .ensures) at (rw (c .before .is-known .ensures) at (c .if2 .left)))
 
 returns-4 : tie.Need-returns-4
 returns-4 c =
-    rw (sym (c .before .before .before .before .before .before .structure-place .ensures) ∙ c .before .before .before .before .p .given .1, rw (c .before .before .shape-at .ensures) at (sym (c .before .is-gpio .ensures) ∙ c .if1 .left))
+    rw (sym (c .before .before .before .before .before .before .structure-place .ensures) ∙ c .before .before .before .before .p .given .1, rw (c .before .before .shape-at .ensures) at (rw (c .before .is-gpio .ensures) at (c .if1 .left)))
 
 pub gpio-record-of-spec : {M : Type 1} → statement M
 gpio-record-of-spec =

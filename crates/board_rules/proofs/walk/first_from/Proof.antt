@@ -63,7 +63,7 @@ loop-again : tie.Need-loop-again Inv-loop μ-loop
 loop-again c =
     let s = c .before .before .before .before .before .before .before .before .args .image .now in
     let below = rw (c .before .before .before .before .before .before .struct-len .ensures) at (c .before .before .before .before .loop-test .taken) in
-    let kept = sym (c .before .before .before .ask .ensures) ∙ c .before .enum-told2 .given .1 in
+    let kept = rw (c .before .before .before .ask .ensures) at (c .before .enum-told2 .given .1) in
     turn _ _ _ (next-grows s) _ _ below kept (c .next-place .ensures) (c .before .before .before .before .before .loop .inv)
 
 returns-2 : tie.Need-returns-2 Inv-loop μ-loop

@@ -35,7 +35,7 @@ returns-2 c =
     rw (c .before .enum-told2 .given .1, known) (rw shape at (c .bad-inside .ensures))
 
 returns-3 : tie.Need-returns-3
-returns-3 c = rw (rw (c .before .before .shape-at .ensures) at (sym (c .before .is-known .ensures) ∙ c .if1 .left))
+returns-3 c = rw (rw (c .before .before .shape-at .ensures) at (rw (c .before .is-known .ensures) at (c .if1 .left)))
 
 pub known-at-spec : {M : Type 1} → statement M
 known-at-spec =
