@@ -12,7 +12,8 @@
 4. each refusal number from 1 to 11, and 42, 43 and 44, was among the answers for tiny images; from 20 to 33, and 42, for boards;
 5. every answer of `tiny_write` for as many requests as tiny images, and at least 20,000, is the answer of tests/reference/tiny.c; where a
    request was made for an answer, it gets that; each refusal number of the writer was among the answers, and no other;
-6. what the gate compares `tiny_write`, `board_answers` and `board_list` with is what the references answer.
+6. what the gate compares `tiny_write`, `board_answers` and `board_list` with is what the references answer;
+7. the functions exported to C answer for images of both formats as they should, and read nothing past either end (tests/boundary.c).
 """
 import collections
 import itertools
@@ -22,6 +23,7 @@ import re
 import subprocess
 import sys
 import tempfile
+import zlib
 
 sys.path.insert(0, os.path.dirname(os.path.abspath(__file__)))
 import board_images
@@ -30,6 +32,7 @@ import tiny_runs
 
 ROOM = 65536  # for requests
 LISTED = 600
+LENT = 3000  # of each format
 REQUESTS = 20000  # at least
 BIN = os.path.join("target", "bin")
 
@@ -57,11 +60,11 @@ def fail(text):
     sys.exit(1)
 
 
-def build(folder, form):
-    """The reference, with the sanitizers: its own mistakes must not count as answers."""
-    program = os.path.join(folder, form.name)
+def build(folder, name, source, *libraries):
+    """A C program, with the sanitizers: its own mistakes must not count as answers."""
+    program = os.path.join(folder, name)
     subprocess.run(["gcc", "-std=c11", "-O2", "-Wall", "-Wextra", "-pedantic", "-Werror", "-fsanitize=address,undefined",
-                    "-fno-sanitize-recover=all", "-o", program, "tests/reference/%s.c" % form.name], check=True)
+                    "-fno-sanitize-recover=all", "-o", program, source, *libraries], check=True)
     return program
 
 
@@ -181,7 +184,7 @@ def compare(form, reference, made, seed):
             if a != b or said != "?" and judged != said:
                 fail("list %d, image %s (%s, made to be %s):\n%s\nreference:\n%s"
                      % (mask, shown(image), group, said, a.decode(), b.decode()))
-            key = int(judged.split()[1]) if judged.startswith("refused") else 0
+            key = refusal(judged)
             counts[key] = counts.get(key, 0) + 1
             for number in set(re.findall(rb"refused (4[234]) 0", a)):
                 counts[int(number)] = counts.get(int(number), 0) + 1
@@ -211,6 +214,30 @@ def compare_readers(form, reference, number, seed):
         fail("only %d answers for %s images were known before" % (known, form.name))
     listings(form, reference, made[:LISTED])
     print("tests: %d %s images listed as by tests/reference/%s.c" % (min(LISTED, number), form.name, form.name))
+
+
+def refusal(said):
+    """The number of a judge's answer, 0 for an accepted image."""
+    return int(said.split()[1]) if said.startswith("refused") else 0
+
+
+def boundary(folder, seed):
+    """The functions exported to C, by tests/boundary.c: the board judge's number where it is known, and the check values of zlib and of
+    tiny_images.crc8. How many images there were."""
+    for crate in ("crc_c", "board_c"):
+        subprocess.run(["rt", "staticlib", crate], check=True, stdout=subprocess.DEVNULL, stderr=subprocess.DEVNULL)
+    program = build(folder, "boundary", "tests/boundary.c", *("target/staticlib/lib%s.a" % crate for crate in ("crc_c", "board_c")))
+    made = [(image, "?") for _, image, _ in itertools.islice(tiny_images.images(seed), LENT)]
+    made += [(image, said) for _, image, said in itertools.islice(board_images.images(seed), LENT)]
+    said = output(program, given=b"".join(len(image).to_bytes(4, "little") + image for image, _ in made)).decode().splitlines()
+    if len(said) != len(made):
+        fail("%d images, %d answered by the functions exported to C" % (len(made), len(said)))
+    for line, (image, known) in zip(said, made):
+        number, *checks = map(int, line.split())
+        blank = image[:0x14] + bytes(len(image[0x14:0x18])) + image[0x18:]
+        if checks != [tiny_images.crc8(image), zlib.crc32(image), zlib.crc32(blank)] or known != "?" and number != refusal(known):
+            fail("image %s (made to be %s) is answered %s by the functions exported to C" % (shown(image), known, line))
+    return len(made)
 
 
 def lines(made, seed):
@@ -263,13 +290,14 @@ def main():
     seed = int(sys.argv[2]) if len(sys.argv) > 2 else 1
     boards = int(sys.argv[3]) if len(sys.argv) > 3 else 12000
     with tempfile.TemporaryDirectory() as folder:
-        references = {form: build(folder, form) for form in (TINY, BOARD)}
+        references = {form: build(folder, form.name, "tests/reference/%s.c" % form.name) for form in (TINY, BOARD)}
         print("tests: %d samples listed as stored" % samples(references))
         stored_answers(references)
         other_input()
         long_run(references)
         compare_readers(TINY, references[TINY], number, seed)
         compare_readers(BOARD, references[BOARD], boards, seed)
+        print("tests: %d images lent to C functions between pages that cannot be read, answered as they should be" % boundary(folder, seed))
         counts, known = compare_writers(references[TINY], itertools.islice(tiny_runs.requests(seed), max(number, REQUESTS)), seed)
         print("tests: %d lines to the writer answered as by tests/reference/tiny.c, %d of them with an answer known before"
               % (sum(counts.values()), known))
