@@ -51,7 +51,7 @@ static void one_logo(uint8_t *image) {
     }
 }
 
-// Structures of 1,024 bytes, of nine known kinds in turn; the last one is shorter.
+// 64 structures of 1,024 bytes after the board structure, of eight known kinds and one that no list has, in turn; the last one is shorter.
 static void many_kinds(uint8_t *image) {
     static const char *const kinds[] = {"$AcpiTbl", "$FPGAnfo", "$HdCodec", "$Logo$", "$MemCnfg", "$MacInfo", "$uCode$", "$Video$", "$Fan"};
     size_t at = FIRST;

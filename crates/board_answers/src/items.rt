@@ -1,7 +1,6 @@
 // Items by number.
 use super::records::put_gpio;
 use super::text::put_data;
-use super::text::put_number;
 use super::text::put_refusal;
 use super::text::put_run;
 use super::text::put_sixteen;
@@ -21,6 +20,7 @@ use board::item_numbered;
 use console::put;
 use console::put_decimal;
 use console::put_hex;
+use console::put_number;
 use kinds::Kinds;
 
 fn put_eeprom(x: EepromFields) {

@@ -1,5 +1,4 @@
 // Records by number.
-use super::text::put_number;
 use super::text::put_refusal;
 use super::text::put_sixteen;
 use board::GpioRecord;
@@ -10,6 +9,7 @@ use board::gpio_record_numbered;
 use board::map_record_numbered;
 use console::put;
 use console::put_decimal;
+use console::put_number;
 use kinds::Kinds;
 
 fn put_map_fields(record: MapRecord) {

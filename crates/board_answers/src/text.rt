@@ -2,17 +2,10 @@
 use console::put;
 use console::put_bytes;
 use console::put_decimal;
+use console::put_number;
 use octets::Sixteen;
 use octets::Span;
 use verdict::Refusal;
-
-// A word and a decimal number, with a space in front of each.
-pub fn put_number(word: &[u8], n: usize) {
-    put(b" ");
-    put(word);
-    put(b" ");
-    put_decimal(n);
-}
 
 // A word and bytes.
 pub fn put_run(word: &[u8], bytes: &[u8]) {

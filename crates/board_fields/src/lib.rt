@@ -13,6 +13,9 @@ use chain::Found;
 use octets::byte_at;
 use octets::le16_at;
 ghost use mathlib.Core.Path.{_≡_};
+ghost use lib.Dec.{ltb};
+ghost use Rattle.chain.specs.First.{when};
+ghost use Rattle.octets.specs.Bytes.{byte};
 ghost use Rattle.board_fields.specs.Hash.{hashSize, badHashOf, badHash};
 ghost use Rattle.board_fields.specs.Heads.{badMapHead, badBoardHead, badPromSigHead};
 ghost use Rattle.board_fields.specs.Inside.{badGpio, badFpga, badFields, badInside};
@@ -124,15 +127,21 @@ pub fn bad_map(image: &[u8], at: u32) -> Found
     first_record(RecordRule::MapFields, image, at)
 }
 
+// The byte at a place, where it is over a bound.
+fn over(image: &[u8], place: usize, most: u8) -> Found
+    ensures { λ r. ⌜ r ≡ when (ltb most (byte (now (image .entry)) place)) place ⌝ }
+{
+    if most < byte_at(image, place) {
+        return Found::At(place);
+    }
+    Found::Nothing
+}
+
 // Rule 31 at the board structure.
 pub fn bad_board_type(image: &[u8], at: u32) -> Found
     ensures { λ r. ⌜ r ≡ badBoardType (now (image .entry)) at ⌝ }
 {
-    let place = at as usize + 0x4C;
-    if 1 < byte_at(image, place) {
-        return Found::At(place);
-    }
-    Found::Nothing
+    over(image, at as usize + 0x4C, 1)
 }
 
 // Where the reserved field of a table begins.
@@ -260,11 +269,7 @@ fn bad_gpio(image: &[u8], at: u32) -> Found
 fn bad_fpga(image: &[u8], at: u32) -> Found
     ensures { λ r. ⌜ r ≡ badFpga (now (image .entry)) at ⌝ }
 {
-    let place = at as usize + 0x10;
-    if 4 < byte_at(image, place) {
-        return Found::At(place);
-    }
-    Found::Nothing
+    over(image, at as usize + 0x10, 4)
 }
 
 // Rule 33 at a structure that has its fixed part.

@@ -2,7 +2,6 @@
 use super::text::put_eight;
 use super::text::put_label;
 use super::text::put_name;
-use super::text::put_number;
 use super::text::put_span;
 use board::BrdInfoFields;
 use board::EeprMapFields;
@@ -19,6 +18,7 @@ use console::put_decimal;
 use console::put_hex;
 use console::put_hex16;
 use console::put_hex32;
+use console::put_number;
 
 // A word, and eight hexadecimal digits.
 fn put_word32(word: &[u8], n: u32) {

@@ -1,19 +1,11 @@
 // Pieces of text on standard output.
 use console::put;
-use console::put_decimal;
+use console::put_number;
 use console::put_quoted;
 use octets::Eight;
 use octets::Sixteen;
 use octets::Span;
 use octets::byte_at;
-
-// A word, a space, and a decimal number; with a space in front.
-pub fn put_number(word: &[u8], n: usize) {
-    put(b" ");
-    put(word);
-    put(b" ");
-    put_decimal(n);
-}
 
 // What follows the fields, by place and length.
 pub fn put_span(word: &[u8], span: Span) {

@@ -17,6 +17,14 @@ pub fn put_decimal(n: usize) {
     io::print_decimal(STDOUT_FILENO, n as u64);
 }
 
+// A word and a decimal number, with a space in front of each.
+pub fn put_number(word: &[u8], n: usize) {
+    put(b" ");
+    put(word);
+    put(b" ");
+    put_decimal(n);
+}
+
 // The digit of the low four bits.
 pub fn digit(n: u8) -> u8
     ensures { λ r. ⌜ r ≡ hexDigit n ⌝ }

@@ -12,6 +12,7 @@ use Rattle.board_fields.specs.Heads.{mapLengthFits, badMapHead, badBoardHead, b
 use Rattle.board_layout.specs.Layout.{signatureAt, majorAt, lengthAt, structLen, endAt, round16, next, structures, mapAt, boardAt, laterAt, records, mapCount}
 use Rattle.board_layout.specs.Places.{StructLen, MapData, mapRecordSize, EepromSig}
 use Rattle.board_layout.specs.declared.Records.the-variants.{Map}
+use Rattle.board_layout.specs.laws.Records as layout
 use Rattle.board_layout.specs.laws.Layout.{next-grows, next-round, next-whole, round-same}
 use Rattle.board_rules.specs.Rules.{headerLength, rule21, rule22, rule23, expected, isEarly, outOfOrder, rule25, isPromSig, promSigAt, onFound, rule26, coveredUpTo, covered}
 use Rattle.chain.specs.laws.Checks.{checks-none, kept-true, kept-equal, kept-under}
@@ -27,7 +28,7 @@ use Rattle.chain.specs.declared.Found.the-variants.{At, Nothing}
 use Rattle.chain.specs.laws.All.{all-both}
 use Rattle.chain.specs.laws.First.{Hit, first-all, first-hit, hit-holds, when-test, when-place, when-nothing}
 use Rattle.chain.specs.laws.Places.{chain-within}
-use Rattle.chain.specs.laws.Steps.{steps-count, steps-fit, steps-nth}
+use Rattle.chain.specs.laws.Steps.{steps-count, steps-nth}
 use Rattle.kinds.specs.Signatures.{eeprom, eeprMap, brdInfo, promSig}
 
 -- a map's Length that fits: 30h + 20h n, n at least 1
@@ -136,9 +137,7 @@ module _ (s : List ℕ) where
 
   -- each whole within the map
   pub records-fit : rule26 s ≡ Nothing → All (λ r. (mapAt s + MapData ≤ r) × (r + mapRecordSize ≤ endAt s (mapAt s))) (records Map s (mapAt s))
-  unfolding records
-  records-fit e =
-      steps-fit mapRecordSize (omega arith) (mapCount s (mapAt s)) (mapAt s + MapData) (endAt s (mapAt s)) (map-ends e)
+  records-fit e = layout.records-fit Map s (mapAt s) (omega (arith, map-head e .1)) (omega (arith, map-head e .1))
 
   -- ---- rules 22, 23 and 26: a `$PromSig` reaches to its hash, so the bytes that Crc32 covers lie within StructLen
   pub covered-within : rule22 s ≡ Nothing → rule23 s ≡ Nothing → rule26 s ≡ Nothing → (0x20 ≤ covered s) × (covered s ≤ structLen s)
