@@ -29,7 +29,6 @@ use console::put_decimal;
 use console::put_number;
 use console::put_refused;
 use kinds::Kinds;
-use octets::Span;
 use octets::le32_at;
 use verdict::Judged;
 use verdict::Refusal;
