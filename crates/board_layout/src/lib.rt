@@ -22,7 +22,7 @@ ghost use mathlib.Core.Path.{_≡_};
 ghost use Prim.Native.Nat.{_≤_, _<_};
 ghost use lib.ListN.{length};
 ghost use Rattle.chain.specs.Nth.{nth};
-ghost use Rattle.board_layout.specs.Layout.{majorAt, minorAt, lengthAt, shapeAt, structLen, endAt, round16, covers, next, structures, mapAt, boardAt, laterAt, dataOffset, recordSize, records};
+ghost use Rattle.board_layout.specs.Layout.{majorAt, minorAt, lengthAt, shapeAt, structLen, endAt, covers, next, structures, mapAt, boardAt, laterAt, dataOffset, recordSize, records};
 ghost use Rattle.board_layout.specs.Shapes.{listedShape, shapeOf, knows};
 
 // Which table of the layout paper a structure has: its signature's, of the listed ones with VerMajor 1 only. Other: none.
