@@ -95,15 +95,15 @@ fn board_at(image: &[u8]) -> u32
     board_place(image) as u32
 }
 
-// Where the signature structure starts, if there is one.
-fn prom_sig(image: &[u8], kinds: Kinds) -> Found
+// Where the signature structure starts, if there is one. (No list counts for that.)
+pub fn prom_sig(image: &[u8]) -> Found
     ensures { λ r. ⌜ r ≡ promSigAt (now (image .entry)) ⌝ }
 {
-    first_from(Test::PromSig, image, kinds, 0)
+    first_from(Test::PromSig, image, Kinds::BARE, 0)
 }
 
 // Rule 26: the heads of the map, the board structure and the signature structure.
-fn bad_heads(image: &[u8], kinds: Kinds) -> Found
+fn bad_heads(image: &[u8]) -> Found
     requires { ⌜ rule25 (now image) ≡ Found.Nothing ⌝ }
     ensures { λ r. ⌜ r ≡ rule26 (now (image .entry)) ⌝ }
 {
@@ -115,24 +115,24 @@ fn bad_heads(image: &[u8], kinds: Kinds) -> Found
     if let Found::At(_) = board {
         return board;
     }
-    let Found::At(p) = prom_sig(image, kinds) else {
+    let Found::At(p) = prom_sig(image) else {
         return Found::Nothing;
     };
     bad_prom_sig_head(image, p as u32)
 }
 
 // The expected CrcLength.
-fn covered_length(image: &[u8], kinds: Kinds) -> usize
+pub fn covered_length(image: &[u8]) -> usize
     ensures { λ r. ⌜ r ≡ covered (now (image .entry)) ⌝ }
 {
-    let Found::At(p) = prom_sig(image, kinds) else {
+    let Found::At(p) = prom_sig(image) else {
         return struct_len(image) as usize;
     };
     p + 0x20
 }
 
 // The expected Crc32 over the first n bytes.
-fn check_over(image: &[u8], n: usize) -> u32
+pub fn check_over(image: &[u8], n: usize) -> u32
     ensures { λ r. ⌜ r ≡ checkOver (now (image .entry)) n ⌝ }
 {
     if image.len() <= n {
@@ -142,10 +142,10 @@ fn check_over(image: &[u8], n: usize) -> u32
 }
 
 // Rule 27: Crc32, then CrcLength.
-fn bad_check(image: &[u8], kinds: Kinds) -> Found
+fn bad_check(image: &[u8]) -> Found
     ensures { λ r. ⌜ r ≡ rule27 (now (image .entry)) ⌝ }
 {
-    let n = covered_length(image, kinds);
+    let n = covered_length(image);
     if le32_at(image, 0x14) == check_over(image, n) {
         if le32_at(image, 0x18) as usize == n {
             return Found::Nothing;
@@ -168,10 +168,10 @@ fn ends_late(image: &[u8]) -> Found
 }
 
 // Rule 29: HashType of the signature structure, if there is one.
-fn bad_signature(image: &[u8], kinds: Kinds) -> Found
+fn bad_signature(image: &[u8]) -> Found
     ensures { λ r. ⌜ r ≡ rule29 (now (image .entry)) ⌝ }
 {
-    let Found::At(p) = prom_sig(image, kinds) else {
+    let Found::At(p) = prom_sig(image) else {
         return Found::Nothing;
     };
     bad_hash(image, p as u32)
@@ -195,7 +195,7 @@ fn judge_fields(image: &[u8], kinds: Kinds) -> Judged
     requires { ⌜ rule25 (now image) ≡ Found.Nothing ⌝ }
     ensures { λ r. ⌜ r ≡ answer (drop 9 (rules kinds (now (image .entry)))) (Judged.Accepted (length (structures (now (image .entry))))) ⌝ }
 {
-    if let Found::At(p) = bad_signature(image, kinds) {
+    if let Found::At(p) = bad_signature(image) {
         return refused(29, p);
     }
     if let Found::At(p) = bad_map(image, map_at(image)) {
@@ -212,10 +212,10 @@ fn judge_heads(image: &[u8], kinds: Kinds) -> Judged
     requires { ⌜ rule25 (now image) ≡ Found.Nothing ⌝ }
     ensures { λ r. ⌜ r ≡ answer (drop 6 (rules kinds (now (image .entry)))) (Judged.Accepted (length (structures (now (image .entry))))) ⌝ }
 {
-    if let Found::At(p) = bad_heads(image, kinds) {
+    if let Found::At(p) = bad_heads(image) {
         return refused(26, p);
     }
-    if let Found::At(p) = bad_check(image, kinds) {
+    if let Found::At(p) = bad_check(image) {
         return refused(27, p);
     }
     if let Found::At(p) = ends_late(image) {

@@ -1,4 +1,4 @@
-// Bytes of an image: numbers and runs of bytes at a place, text, labels, and bytes put into a buffer.
+// Bytes of an image: numbers and runs of bytes at a place, text, labels, numbers as bytes, and bytes put into a buffer.
 // Every function is total: a byte past the end of the image reads as 0, so that no caller owes a bound.
 use chain::Found;
 ghost use mathlib.Core.Path.{_≡_};
@@ -9,6 +9,7 @@ ghost use Rattle.octets.specs.Put.{put};
 ghost use Rattle.octets.specs.Runs.{sixAt, eightAt, sixteenAt, difference, sameRun, nonzero};
 
 pub mod label;
+pub mod spell;
 
 // Where something lies in an image, and how many bytes it has.
 pub struct Span {

@@ -2,8 +2,7 @@
 use Prim.Native.Nat.{ℕ, _+_}
 use mathlib.Core.Bool.{Bool, true, false}
 use mathlib.Core.List.{List, map, flatten}
-use mathlib.Core.Path.{_≡_}
-use lib.ListN.{length, take}
+use lib.ListN.{length}
 use Rattle.chain.specs.declared.Found.{Found}
 use Rattle.chain.specs.declared.Found.the-variants.{At, Nothing}
 use Rattle.octets.specs.Bytes.{run}
@@ -33,8 +32,3 @@ measured r = measuredIf r (rule46 r)
 abbrev pub poolBytes : Bool → ℕ → ℕ
 poolBytes true n = 2 + n
 poolBytes false n = 0
-
--- an image that is being built holds these bytes up to place `to`, and is of this length
-pub record Holds (image : List ℕ) (to : ℕ) (bytes : List ℕ) (room : ℕ) : Type 0 where
-  pub front : take to image ≡ bytes
-  pub long : length image ≡ room

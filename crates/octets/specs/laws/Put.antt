@@ -10,7 +10,7 @@ use lib.ListN.{length, take, drop, set}
 use lib.Seq.{length-paste, take-paste, take-length, paste, paste-suc}
 use borrow.Author.Tests.{le-leb, lt-leb}
 use Rattle.octets.specs.Bytes.{byte}
-use Rattle.octets.specs.Put.{put}
+use Rattle.octets.specs.Put.{put, Holds}
 
 -- where the bytes do not fit, nothing changes
 pub put-none : (bytes : List ℕ) (at : ℕ) (buffer : List ℕ) → length buffer < at + length bytes → put bytes at buffer ≡ buffer
@@ -50,3 +50,13 @@ module _ (bytes : List ℕ) (at : ℕ) (buffer : List ℕ) (fits : at + length b
 pub put-first : (bytes buffer : List ℕ) → length bytes ≤ length buffer → put bytes 0 buffer ≡ bytes ++ drop (length bytes) buffer
 put-first bytes buffer h =
     put-fits bytes 0 buffer (omega arith) ∙ ap (λ (n : ℕ). bytes ++ drop n buffer) (zero-add (length bytes))
+
+-- a buffer that holds bytes, and more bytes put where they end
+pub holds-more : (buffer bytes more : List ℕ) (to room : ℕ) → Holds buffer to bytes room → to + length more ≤ room
+    → Holds (put more to buffer) (to + length more) (bytes ++ more) room
+holds-more buffer bytes more to room h fits =
+    let f : to + length more ≤ length buffer = omega (arith, h .long) in
+    record {
+      front = put-front more to buffer f ∙ ap (λ (l : List ℕ). l ++ more) (h .front);
+      long = put-length more to buffer f ∙ h .long;
+    }

@@ -1,4 +1,4 @@
--- What a comparison of two runs tells, and a search for a byte that is not zero. Assumes nothing.
+-- Sixteen bytes as a list, what a comparison of two runs tells, and a search for a byte that is not zero. Assumes nothing.
 use Prim.Native.Nat.{ℕ, _+_, _≤_, _<_}
 use mathlib.Core.Bool.{true, not}
 use mathlib.Core.List.{List}
@@ -7,11 +7,22 @@ use native.Mathlib.Omega.{arith}
 use borrow.Author.Tests.{eq-eqb, eqb-true, not-false}
 use Rattle.chain.specs.declared.Found.{Found}
 use Rattle.chain.specs.declared.Found.the-variants.{At, Nothing}
+use Rattle.chain.specs.Fill.{tab}
 use Rattle.chain.specs.laws.Fill.{tab-agree}
 use Rattle.chain.specs.laws.Ranges.{Least, range-least, range-none, none-range}
 use Rattle.octets.specs.Bytes.{byte, run}
-use Rattle.octets.specs.Runs.{apart, difference, isNothing, sameRun, isSet, nonzero}
+use Rattle.octets.specs.Runs.{sixteen, sixteenAt, sixteenBytes, apart, difference, isNothing, sameRun, isSet, nonzero}
+use Rattle.octets.specs.declared.Sixteen.{Sixteen}
 use Rattle.octets.specs.laws.Bytes.{byte-run}
+
+-- sixteen bytes as a list, and back
+pub sixteen-bytes : (x : Sixteen) → sixteen (sixteenBytes x) ≡ x
+sixteen-bytes x = refl
+
+-- the list of the sixteen bytes at a place
+pub bytes-sixteen : (s : List ℕ) (p : ℕ) → sixteenBytes (sixteenAt s p) ≡ run s p 16
+unfolding sixteenAt tab
+bytes-sixteen s p = refl
 
 module _ (a : List ℕ) (p : ℕ) (b : List ℕ) (q n : ℕ) where
   pub difference-least : (i : ℕ) → difference a p b q n ≡ At i → Least (apart a p b q) (λ j. j) 0 n i

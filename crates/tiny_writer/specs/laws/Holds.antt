@@ -12,23 +12,13 @@ use Rattle.chain.specs.All.{All}
 use Rattle.chain.specs.Chain.{chain}
 use Rattle.chain.specs.laws.Chain.{chain-more}
 use Rattle.crc.specs.Crc8.{crc8}
-use Rattle.octets.specs.Put.{put}
-use Rattle.octets.specs.laws.Put.{put-length, put-front}
-use Rattle.tiny_writer.specs.Building.{laidAt, laidFrom, Holds}
+use Rattle.octets.specs.Put.{put, Holds}
+use Rattle.octets.specs.laws.Put.{holds-more}
+use Rattle.tiny_writer.specs.Building.{laidAt, laidFrom}
 use Rattle.tiny_writer.specs.Image.{Parts, unchecked, image}
 use Rattle.tiny_writer.specs.Run.{runSize, badItem, runNext}
 use Rattle.tiny_writer.specs.laws.Laid.{laid-end, laid-more, laid-length, laid-step}
 use Rattle.tiny_writer.specs.laws.Run.{item-good, run-grows}
-
--- more bytes, put where they end
-pub holds-more : (image bytes more : List ℕ) (to room : ℕ) → Holds image to bytes room → to + length more ≤ room
-    → Holds (put more to image) (to + length more) (bytes ++ more) room
-holds-more image bytes more to room h fits =
-    let f : to + length more ≤ length image = omega (arith, h .long) in
-    record {
-      front = put-front more to image f ∙ ap (λ (l : List ℕ). l ++ more) (h .front);
-      long = put-length more to image f ∙ h .long;
-    }
 
 -- an item, put as its head and the rest of it
 pub holds-item : (image bytes head rest item one two : List ℕ) (to mid end room : ℕ) → head ++ rest ≡ item → mid ≡ to + length head → end ≡ to + length item
