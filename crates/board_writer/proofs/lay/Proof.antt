@@ -1,0 +1,101 @@
+-- `lay` meets its contract: the check fields are worked out over the image as it is laid so far. Assumes nothing.
+use native.Mathlib.Omega.{arith}
+use borrow.Author.Needs.{needs}
+use Rattle.board_writer.proofs.lay.Statement.{statement}
+use Rattle.board_writer.proofs.lay.Tie as tie
+use lib.ListN.{take}
+use lib.Seq.{length-take-le}
+use Rattle.board_writer.specs.Image.{body}
+use Rattle.board_writer.specs.Parts.{parts}
+use Rattle.board_writer.specs.laws.CheckFields.{covers-small}
+use Rattle.board_writer.specs.laws.Sealing.{laid-plain, covers-is, laid-covers, laid-image}
+
+lay-body-requires : tie.Need-lay-body-requires
+lay-body-requires c κs =
+    (omega (arith, c .before .before .before .before .pre .0, c .before .before .before .before .pre .1), c .before .before .before .before .pre .2)
+
+lay-header-requires : tie.Need-lay-header-requires
+lay-header-requires c κs = c .before .before .before .lay-body .ensures .long
+
+sub-covered-length : tie.Need-sub-covered-length
+sub-covered-length c = search needs
+
+part-covered-length-start : tie.Need-part-covered-length-start
+part-covered-length-start c = search needs
+
+part-covered-length-end : tie.Need-part-covered-length-end
+part-covered-length-end c = search needs
+
+covered-length-requires : tie.Need-covered-length-requires
+covered-length-requires c κs = search needs
+
+cast-covers : tie.Need-cast-covers
+unfolding body
+cast-covers c =
+    let a = c .before .before .before .before .before .before .before .before .before .before .before .before .before .before .args in
+    let x = parts (a .version) (a .map) (a .records .now) (a .board) (a .further .now) in
+    let w = length-take-le 0x30 (a .block .now) (omega (arith, c .before .before .before .before .before .before .before .before .before .before .before .before .before .before .pre .2)) in
+    omega (arith, covers-is x (a .end) (c .before .before .before .before .before .before .before .before .before .before .before .before .before .before .pre .0) (c .before .before .before .before .before .before .before .before .before .before .before .before .before .before .pre .1) (take 0x30 (a .block .now)) _ _ w (c .before .before .before .before .before .before .before .before .before .lay-body .ensures) (c .before .before .before .before .before .lay-header .ensures) _ (c .covered-length .ensures), covers-small x (omega (arith, c .before .before .before .before .before .before .before .before .before .before .before .before .before .before .pre .0, c .before .before .before .before .before .before .before .before .before .before .before .before .before .before .pre .1)))
+
+lay-header-requires-2 : tie.Need-lay-header-requires-2
+unfolding body
+lay-header-requires-2 c κs =
+    let a = c .before .before .before .before .before .before .before .before .before .before .before .before .before .before .before .args in
+    let x = parts (a .version) (a .map) (a .records .now) (a .board) (a .further .now) in
+    let w = length-take-le 0x30 (a .block .now) (omega (arith, c .before .before .before .before .before .before .before .before .before .before .before .before .before .before .before .pre .2)) in
+    laid-plain x (a .end) (c .before .before .before .before .before .before .before .before .before .before .before .before .before .before .before .pre .0) (c .before .before .before .before .before .before .before .before .before .before .before .before .before .before .before .pre .1) (take 0x30 (a .block .now)) _ _ w (c .before .before .before .before .before .before .before .before .before .before .lay-body .ensures) (c .before .before .before .before .before .before .lay-header .ensures) .long
+
+sub-check-over : tie.Need-sub-check-over
+sub-check-over c = search needs
+
+part-check-over-start : tie.Need-part-check-over-start
+part-check-over-start c = search needs
+
+part-check-over-end : tie.Need-part-check-over-end
+part-check-over-end c = search needs
+
+cast-check-over : tie.Need-cast-check-over
+cast-check-over c = search needs
+
+check-over-requires : tie.Need-check-over-requires
+check-over-requires c κs = search needs
+
+lay-header-requires-3 : tie.Need-lay-header-requires-3
+unfolding body
+lay-header-requires-3 c κs =
+    let a = c .before .before .before .before .before .before .before .before .before .before .before .before .before .before .before .before .before .before .before .before .before .before .args in
+    let x = parts (a .version) (a .map) (a .records .now) (a .board) (a .further .now) in
+    let w = length-take-le 0x30 (a .block .now) (omega (arith, c .before .before .before .before .before .before .before .before .before .before .before .before .before .before .before .before .before .before .before .before .before .before .pre .2)) in
+    laid-covers x (a .end) (c .before .before .before .before .before .before .before .before .before .before .before .before .before .before .before .before .before .before .before .before .before .before .pre .0) (c .before .before .before .before .before .before .before .before .before .before .before .before .before .before .before .before .before .before .before .before .before .before .pre .1) (take 0x30 (a .block .now)) _ _ w (c .before .before .before .before .before .before .before .before .before .before .before .before .before .before .before .before .before .lay-body .ensures) (c .before .before .before .before .before .before .before .before .before .before .before .before .before .lay-header .ensures) _ (c .before .before .before .before .before .before .before .before .covered-length .ensures) _ (c .before .before .before .before .before .before .lay-header2 .ensures) .long
+
+same-length : tie.Need-same-length
+same-length c = search needs
+
+returns : tie.Need-returns
+unfolding body
+returns c =
+    let a = c .before .before .before .before .before .before .before .before .before .before .before .before .before .before .before .before .before .before .before .before .before .before .before .before .before .args in
+    let x = parts (a .version) (a .map) (a .records .now) (a .board) (a .further .now) in
+    let w = length-take-le 0x30 (a .block .now) (omega (arith, c .before .before .before .before .before .before .before .before .before .before .before .before .before .before .before .before .before .before .before .before .before .before .before .before .before .pre .2)) in
+    laid-image x (a .end) (c .before .before .before .before .before .before .before .before .before .before .before .before .before .before .before .before .before .before .before .before .before .before .before .before .before .pre .0) (c .before .before .before .before .before .before .before .before .before .before .before .before .before .before .before .before .before .before .before .before .before .before .before .before .before .pre .1) (take 0x30 (a .block .now)) _ _ w (c .before .before .before .before .before .before .before .before .before .before .before .before .before .before .before .before .before .before .before .before .lay-body .ensures) (c .before .before .before .before .before .before .before .before .before .before .before .before .before .before .before .before .lay-header .ensures) _ (c .before .before .before .before .before .before .before .before .before .before .before .covered-length .ensures) _ (c .before .before .before .before .before .before .before .before .before .lay-header2 .ensures) _ _ (c .before .before .before .before .check-over .ensures) (c .before .before .lay-header3 .ensures)
+
+pub lay-spec : {M : Type 1} → statement M
+lay-spec =
+    tie.close
+    (tie.spec
+    lay-body-requires
+    lay-header-requires
+    sub-covered-length
+    part-covered-length-start
+    part-covered-length-end
+    covered-length-requires
+    cast-covers
+    lay-header-requires-2
+    sub-check-over
+    part-check-over-start
+    part-check-over-end
+    cast-check-over
+    check-over-requires
+    lay-header-requires-3
+    same-length
+    returns)

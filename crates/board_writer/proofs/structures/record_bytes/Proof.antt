@@ -1,0 +1,69 @@
+-- `structures::record_bytes` meets its contract: by computation, once each put is known. Assumes nothing.
+use borrow.Author.Needs.{needs}
+use Rattle.board_writer.proofs.structures.record_bytes.Statement.{statement}
+use Rattle.board_writer.proofs.structures.record_bytes.Tie as tie
+use Rattle.octets.specs.Bytes.{spelled}
+use Rattle.octets.specs.Put.{put}
+
+sixteen-bytes-requires : tie.Need-sixteen-bytes-requires
+sixteen-bytes-requires c κs = search needs
+
+slice-aggregate-put-at : tie.Need-slice-aggregate-put-at
+slice-aggregate-put-at c = search needs
+
+slice-aggregate-put-at-2 : tie.Need-slice-aggregate-put-at-2
+slice-aggregate-put-at-2 c = search needs
+
+put-at-requires : tie.Need-put-at-requires
+put-at-requires c κs = search needs
+
+le32-bytes-requires : tie.Need-le32-bytes-requires
+le32-bytes-requires c κs = search needs
+
+slice-aggregate-put-at-3 : tie.Need-slice-aggregate-put-at-3
+slice-aggregate-put-at-3 c = search needs
+
+slice-aggregate-put-at-4 : tie.Need-slice-aggregate-put-at-4
+slice-aggregate-put-at-4 c = search needs
+
+put-at-requires-2 : tie.Need-put-at-requires-2
+put-at-requires-2 c κs = search needs
+
+le32-bytes-requires-2 : tie.Need-le32-bytes-requires-2
+le32-bytes-requires-2 c κs = search needs
+
+slice-aggregate-put-at-5 : tie.Need-slice-aggregate-put-at-5
+slice-aggregate-put-at-5 c = search needs
+
+slice-aggregate-put-at-6 : tie.Need-slice-aggregate-put-at-6
+slice-aggregate-put-at-6 c = search needs
+
+put-at-requires-3 : tie.Need-put-at-requires-3
+put-at-requires-3 c κs = search needs
+
+array-write-bytes : tie.Need-array-write-bytes
+array-write-bytes c = search needs
+
+returns : tie.Need-returns
+unfolding put spelled
+returns c =
+    rw (c .before .put-at3 .ensures, c .before .before .before .before .before .before .put-at2 .ensures, c .before .before .before .before .before .before .before .before .before .before .before .put-at .ensures, c .before .before .before .before .before .before .before .before .before .before .before .before .before .before .sixteen-bytes .ensures, c .before .before .before .before .before .before .before .before .before .le32-bytes .ensures, c .before .before .before .before .le32-bytes2 .ensures)
+
+pub record-bytes-spec : {M : Type 1} → statement M
+record-bytes-spec =
+    tie.close
+    (tie.spec
+    sixteen-bytes-requires
+    slice-aggregate-put-at
+    slice-aggregate-put-at-2
+    put-at-requires
+    le32-bytes-requires
+    slice-aggregate-put-at-3
+    slice-aggregate-put-at-4
+    put-at-requires-2
+    le32-bytes-requires-2
+    slice-aggregate-put-at-5
+    slice-aggregate-put-at-6
+    put-at-requires-3
+    array-write-bytes
+    returns)

@@ -1,0 +1,7 @@
+-- The definitions that the contracts cite, examples of them, and laws that other crates may cite. Assumes nothing.
+pub mod Parts
+pub mod Image
+pub mod Written
+pub mod PartsOf
+pub mod Examples
+pub mod laws

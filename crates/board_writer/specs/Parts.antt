@@ -1,0 +1,45 @@
+-- What the writer takes. Paper 01, "Writers": "Version, the map's fields with one run of records (label and address, seventeen bytes each), the board's fields,
+-- labels as sixteen bytes, and one run of further bytes (heads and padding included)". Assumes nothing.
+use Prim.Native.Nat.{ℕ, _+_, _*_, _/_, _%_, _<_}
+use mathlib.Core.Bool.{not}
+use mathlib.Core.List.{List}
+use lib.Dec.{eqb}
+use lib.ListN.{length}
+use Rattle.board.specs.declared.BrdInfoFields.{BrdInfoFields}
+use Rattle.board_writer.specs.declared.MapFields.{MapFields}
+use Rattle.chain.specs.First.{when}
+use Rattle.chain.specs.declared.Found.{Found}
+
+pub record Parts : Type 0 where
+  pub version : ℕ
+  pub map : MapFields
+  pub records : List ℕ
+  pub board : BrdInfoFields
+  pub further : List ℕ
+
+-- as a call gives them
+abbrev pub parts : ℕ → MapFields → List ℕ → BrdInfoFields → List ℕ → Parts
+parts version map records board further =
+    record { version = version; map = map; records = records; board = board; further = further }
+
+-- label (16) and address (1)
+abbrev pub givenSize : ℕ
+givenSize = 17
+
+-- how many records are given
+abbrev pub recordCount : Parts → ℕ
+recordCount x = length (x .records) / givenSize
+
+-- 46: board writer: records not whole seventeens
+abbrev pub rule46 : Parts → Found
+rule46 x = when (not (eqb (length (x .records) % givenSize) 0)) 0
+
+-- each number fits its field: four bytes, and two for PageSize. (Every call meets this by the types of its parameters.)
+pub record Fits (x : Parts) : Type 0 where
+  pub version : x .version < 0x1_0000_0000
+  pub blkLength : x .map .blklength < 0x1_0000_0000
+  pub pageSize : x .map .pagesize < 0x1_0000
+  pub partSize : x .map .partsize < 0x1_0000_0000
+  pub boardId : x .board .boardid < 0x1_0000_0000
+  pub fabId : x .board .fabid < 0x1_0000_0000
+  pub ecId : x .board .ecid < 0x1_0000_0000

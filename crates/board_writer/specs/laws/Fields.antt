@@ -1,0 +1,126 @@
+-- The fields of an image, read where their structure or record lies, are those it was made of: each is read in its block, and a number that fits its field
+-- is what its bytes spell. Assumes nothing.
+use Prim.Native.Nat.{ℕ, _+_, _-_, _*_, _<_}
+use mathlib.Core.List.{List, _++_}
+use mathlib.Core.Path.{_≡_, ap, _∙_}
+use native.Mathlib.Omega.{arith}
+use lib.ListN.{length}
+use Rattle.board.specs.Items.{restAt, eeprMapAt, brdInfoAt}
+use Rattle.board.specs.Records.{mapRecordAt}
+use Rattle.board.specs.declared.EeprMapFields.{EeprMapFields}
+use Rattle.board.specs.declared.MapRecord.{MapRecord}
+use Rattle.board_layout.specs.Layout.{lengthAt}
+use Rattle.board_layout.specs.Places.{CrcLength, Version, ManuName, BrdName, BrdSerial, BoardId, FabId, EcId, BoardType, PartLabel, BlkLength, PageSize, PartSize, BusNumber, Master, Speed, MapData, MapLabel, MapLength, MapOffset, Address, mapRecordSize}
+use Rattle.board_writer.specs.Image.{headerOf, mapOf, boardOf, laidRecord, mapLength, imageLength, laid}
+use Rattle.board_writer.specs.Parts.{Parts, Fits, givenSize, recordCount}
+use Rattle.board_writer.specs.laws.Blocks.{header-lies, map-lies, record-lies, board-lies, further-lies}
+use Rattle.board_writer.specs.laws.Lies.{Lies, lies-run, le16-in, le32-in, sixteen-in}
+use Rattle.board_writer.specs.laws.Places.{map-head}
+use Rattle.chain.specs.Fill.{tab}
+use Rattle.octets.specs.Bytes.{byte, run, spelled, le16, le32}
+use Rattle.octets.specs.Runs.{sixteenAt}
+use Rattle.octets.specs.laws.Spelled.{little-spelled}
+
+-- the map as it is shown
+abbrev pub mapShown : Parts → EeprMapFields
+mapShown x =
+    record {
+      partlabel = x .map .partlabel;
+      blklength = x .map .blklength;
+      pagesize = x .map .pagesize;
+      partsize = x .map .partsize;
+      busnumber = x .map .busnumber;
+      master = x .map .master;
+      speed = x .map .speed;
+      mapdata = record { place = 0x60; length = mapRecordSize * recordCount x };
+    }
+
+-- record k: "Record k has Offset k x BlkLength"
+abbrev pub recordShown : Parts → ℕ → MapRecord
+recordShown x k =
+    record {
+      maplabel = sixteenAt (x .records) (givenSize * k);
+      length = mapRecordSize;
+      offset = record { 0 = k * x .map .blklength };
+      address = record { 0 = byte (x .records) (givenSize * k + 16) };
+    }
+
+module _ (x : Parts) (check covers : ℕ) (rest : List ℕ) where
+  abbrev s : List ℕ
+  s = laid x check covers ++ rest
+
+  abbrev header : List ℕ
+  header = headerOf (imageLength x) check covers (x .version)
+
+  abbrev map : List ℕ
+  map = mapOf (mapLength x) (x .map)
+
+  -- the four bytes of the header's field Crc32, CrcLength or Version
+  pub check-read : check < 0x1_0000_0000 → le32 s 0x14 ≡ check
+  unfolding spelled le32 tab
+  check-read h = le32-in s 0 header (header-lies x check covers rest) 0x14 (omega arith) ∙ little-spelled 4 check h
+
+  pub covers-read : covers < 0x1_0000_0000 → le32 s CrcLength ≡ covers
+  unfolding spelled le32 tab
+  covers-read h = le32-in s 0 header (header-lies x check covers rest) CrcLength (omega arith) ∙ little-spelled 4 covers h
+
+  pub version-read : Fits x → le32 s Version ≡ x .version
+  unfolding spelled le32 tab
+  version-read fits =
+      le32-in s 0 header (header-lies x check covers rest) Version (omega arith) ∙ little-spelled 4 (x .version) (fits .version)
+
+  -- where the records lie
+  rest-read : imageLength x < 0x1_0000_0000 → restAt s 0x30 MapData ≡ record { place = 0x60; length = mapRecordSize * recordCount x }
+  unfolding restAt
+  rest-read small =
+      let e : lengthAt s 0x30 - MapData ≡ mapRecordSize * recordCount x = omega (arith, map-head x check covers rest small .long) in
+      ap (λ (n : ℕ). record { place = 0x60; length = n }) e
+
+  pub map-read : imageLength x < 0x1_0000_0000 → Fits x → eeprMapAt s 0x30 ≡ mapShown x
+  unfolding eeprMapAt sixteenAt spelled le16 le32 tab
+  map-read small fits i =
+      let lies : Lies s 0x30 map = map-lies x check covers rest in
+      record {
+        partlabel = sixteen-in s 0x30 map lies PartLabel (omega arith) i;
+        blklength = (le32-in s 0x30 map lies BlkLength (omega arith) ∙ little-spelled 4 (x .map .blklength) (fits .blkLength)) i;
+        pagesize = (le16-in s 0x30 map lies PageSize (omega arith) ∙ little-spelled 2 (x .map .pagesize) (fits .pageSize)) i;
+        partsize = (le32-in s 0x30 map lies PartSize (omega arith) ∙ little-spelled 4 (x .map .partsize) (fits .partSize)) i;
+        busnumber = lies BusNumber (omega arith) i;
+        master = lies Master (omega arith) i;
+        speed = lies Speed (omega arith) i;
+        mapdata = rest-read small i;
+      }
+
+  -- a record whose Offset fits its field
+  pub record-read : (k : ℕ) → k < recordCount x → k * x .map .blklength < 0x1_0000_0000 → mapRecordAt s (0x60 + k * mapRecordSize) ≡ recordShown x k
+  unfolding mapRecordAt laidRecord sixteenAt spelled le32 tab
+  record-read k h offset i =
+      let r : ℕ = 0x60 + k * mapRecordSize in
+      let one : List ℕ = laidRecord (x .records) (x .map .blklength) k in
+      let lies : Lies s r one = record-lies x check covers rest k h in
+      record {
+        maplabel = sixteen-in s r one lies MapLabel (omega arith) i;
+        length = le32-in s r one lies MapLength (omega arith) i;
+        offset = record { 0 = (le32-in s r one lies MapOffset (omega arith) ∙ little-spelled 4 (k * x .map .blklength) offset) i };
+        address = record { 0 = lies Address (omega arith) i };
+      }
+
+  pub board-read : Fits x → brdInfoAt s (0x30 + mapLength x) ≡ x .board
+  unfolding brdInfoAt sixteenAt spelled le32 tab
+  board-read fits i =
+      let b : ℕ = 0x30 + mapLength x in
+      let board : List ℕ = boardOf (x .board) in
+      let lies : Lies s b board = board-lies x check covers rest in
+      record {
+        manuname = sixteen-in s b board lies ManuName (omega arith) i;
+        brdname = sixteen-in s b board lies BrdName (omega arith) i;
+        brdserial = sixteen-in s b board lies BrdSerial (omega arith) i;
+        boardid = (le32-in s b board lies BoardId (omega arith) ∙ little-spelled 4 (x .board .boardid) (fits .boardId)) i;
+        fabid = (le32-in s b board lies FabId (omega arith) ∙ little-spelled 4 (x .board .fabid) (fits .fabId)) i;
+        ecid = (le32-in s b board lies EcId (omega arith) ∙ little-spelled 4 (x .board .ecid) (fits .ecId)) i;
+        boardtype = lies BoardType (omega arith) i;
+      }
+
+  -- the further bytes
+  pub further-read : run s (0x90 + mapLength x) (length (x .further)) ≡ x .further
+  further-read = lies-run s (0x90 + mapLength x) (x .further) (further-lies x check covers rest)

@@ -1,0 +1,63 @@
+-- How many bytes each block of an image has, and so the image itself, whatever its check fields are. Assumes nothing.
+use Prim.Native.Nat.{ℕ, _+_, _*_}
+use mathlib.Core.List.{List, _++_}
+use mathlib.Core.Path.{_≡_, refl, _∙_}
+use native.Mathlib.Omega.{arith}
+use lib.ListN.{length, length-append}
+use Rattle.board.specs.declared.BrdInfoFields.{BrdInfoFields}
+use Rattle.board_layout.specs.Places.{MapData, mapRecordSize}
+use Rattle.board_rules.specs.Rules.{headerLength}
+use Rattle.board_writer.specs.Image.{headerOf, mapOf, boardOf, laidRecord, laidRecords, mapLength, imageLength, body, laid, crcLength, check, image}
+use Rattle.board_writer.specs.Parts.{Parts, recordCount}
+use Rattle.board_writer.specs.declared.MapFields.{MapFields}
+use Rattle.board_writer.specs.laws.Pieces.{flat-length}
+use Rattle.octets.specs.Bytes.{spelled}
+
+pub header-length : (end check covers version : ℕ) → length (headerOf end check covers version) ≡ headerLength
+unfolding spelled
+header-length end check covers version = refl
+
+pub map-length : (n : ℕ) (m : MapFields) → length (mapOf n m) ≡ MapData
+unfolding spelled
+map-length n m = refl
+
+pub record-length : (records : List ℕ) (block k : ℕ) → length (laidRecord records block k) ≡ mapRecordSize
+unfolding laidRecord spelled
+record-length records block k = refl
+
+pub board-length : (b : BrdInfoFields) → length (boardOf b) ≡ 0x60
+unfolding spelled
+board-length b = refl
+
+-- n records
+pub records-length : (records : List ℕ) (block n : ℕ) → length (laidRecords records block n) ≡ n * mapRecordSize
+unfolding laidRecords
+records-length records block n = flat-length (laidRecord records block) mapRecordSize n (record-length records block)
+
+-- all that follows the header
+pub body-length : (x : Parts) → length (body x) ≡ mapLength x + 0x60 + length (x .further)
+unfolding body
+body-length x =
+    let map : List ℕ = mapOf (mapLength x) (x .map) in
+    let records : List ℕ = laidRecords (x .records) (x .map .blklength) (recordCount x) in
+    let board : List ℕ = boardOf (x .board) in
+    length-append (map ++ records ++ board) (x .further)
+    ∙ omega (
+      arith,
+      length-append (map ++ records) board,
+      length-append map records,
+      map-length (mapLength x) (x .map),
+      records-length (x .records) (x .map .blklength) (recordCount x),
+      board-length (x .board),
+    )
+
+-- with any check fields
+pub laid-length : (x : Parts) (check covers : ℕ) → length (laid x check covers) ≡ imageLength x
+unfolding laid
+laid-length x check covers =
+    let header : List ℕ = headerOf (imageLength x) check covers (x .version) in
+    length-append header (body x) ∙ omega (arith, header-length (imageLength x) check covers (x .version), body-length x)
+
+pub image-length : (x : Parts) → length (image x) ≡ imageLength x
+unfolding image
+image-length x = laid-length x (check x) (crcLength x)

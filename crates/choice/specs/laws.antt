@@ -1,0 +1,6 @@
+-- What is proved of the definitions. Assumes nothing.
+
+pub mod Boards
+pub mod Exactly
+pub mod Parts
+pub mod Lent
