@@ -23,15 +23,16 @@ list: ## list the image in a file: make list IMAGE=samples/case4.bin (FORMAT=tin
 	rt check $${format}_list >target/list.log 2>&1 || { cat target/list.log; exit 1; }; \
 	target/bin/$${format}_list <"$(IMAGE)"
 
-write: ## write a tiny image: make write REQUEST='12; 10 01 00; 74 6F 70 B1' (buffer; run; pool)
+write: ## write an image: make write REQUEST='12; 10 01 00; 74 6F 70 B1' (buffer; run; pool; for FORMAT=board see docs/WRITING.md)
 	@test -n "$$REQUEST" || { echo "write: what? For example: make write REQUEST='12; 10 01 00; 74 6F 70 B1'"; exit 1; }
+	@case "$(FORMAT)" in ""|tiny|board) ;; *) echo "write: FORMAT is tiny or board"; exit 1 ;; esac
 	@mkdir -p target
-	@rt check tiny_write >target/write.log 2>&1 || { cat target/write.log; exit 1; }
-	@printf '%s\n' "$$REQUEST" | target/bin/tiny_write
+	@rt check $(or $(FORMAT),tiny)_write >target/write.log 2>&1 || { cat target/write.log; exit 1; }
+	@printf '%s\n' "$$REQUEST" | target/bin/$(or $(FORMAT),tiny)_write
 
-compare: ## compare with readers and a writer in C: make compare IMAGES=20000 SEED=1 BOARDS=12000
+compare: ## compare with readers and writers in C: make compare IMAGES=20000 SEED=1 BOARDS=12000
 	@mkdir -p target
-	@rt check tiny_list tiny_answers tiny_write board_list board_answers >target/compare.log 2>&1 || { cat target/compare.log; exit 1; }
+	@rt check tiny_list tiny_answers tiny_write board_list board_answers board_write choice_answers >target/compare.log 2>&1 || { cat target/compare.log; exit 1; }
 	@python3 tests/run.py $(or $(IMAGES),20000) $(or $(SEED),1) $(or $(BOARDS),12000)
 
 bench: ## time the CRCs and the judge of board images against zlib, and CRC-8 against a plain C loop (no test)

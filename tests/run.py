@@ -11,9 +11,13 @@
 3. `tiny_list` and `board_list` list some of them as the references do;
 4. each refusal number from 1 to 11, and 42, 43 and 44, was among the answers for tiny images; from 20 to 33, and 42, for boards;
 5. every answer of `tiny_write` for as many requests as tiny images, and at least 20,000, is the answer of tests/reference/tiny.c; where a
-   request was made for an answer, it gets that; each refusal number of the writer was among the answers, and no other;
-6. what the gate compares `tiny_write`, `board_answers` and `board_list` with is what the references answer;
-7. the functions exported to C answer for images of both formats as they should, and read nothing past either end (tests/boundary.c).
+   request was made for an answer, it gets that; each refusal number of the writer was among the answers, and no other. The same for
+   `board_write`, a third as many requests as board images, and tests/reference/board_write.c;
+6. every answer of `choice_answers` for a third as many pairs of images as board images is the answer of tests/reference/board_write.c;
+   where a pair was made for an answer, it gets that; firmware, EEPROM and neither were among the answers;
+7. what the gate compares `tiny_write`, `board_answers`, `board_list`, `board_write` and `choice_answers` with is what the references
+   answer;
+8. the functions exported to C answer for images of both formats as they should, and read nothing past either end (tests/boundary.c).
 """
 import collections
 import itertools
@@ -27,23 +31,23 @@ import zlib
 
 sys.path.insert(0, os.path.dirname(os.path.abspath(__file__)))
 import board_images
+import board_runs
 import tiny_images
 import tiny_runs
 
-ROOM = 65536  # for requests
 LISTED = 600
 LENT = 3000  # of each format
-REQUESTS = 20000  # at least
+REQUESTS = 20000  # to the tiny writer, at least
 BIN = os.path.join("target", "bin")
 
 # a format: its name in those of programs; the full list, and another one; how many bytes a record has for its list and for its image's
-# length, and a run of records at most; the numbers of its rules, the first of them that asks the list, and those that follow them; the
-# images of a seed
-Format = collections.namedtuple("Format", "name full another list_bytes length_bytes room rules listed late images")
+# length, and a run of records or of requests at most; the numbers of its rules, the first of them that asks the list, and those that follow
+# them; the images of a seed, and the requests to its writer; the sources of its reference
+Format = collections.namedtuple("Format", "name full another list_bytes length_bytes room rules listed late images runs sources")
 TINY = Format("tiny", 255, lambda rnd: rnd.choice([0, 254, 253, 251, rnd.randrange(256)]), 1, 2, 65536, range(1, 12), 8, (42, 43, 44),
-              tiny_images.images)
+              tiny_images.images, tiny_runs, ("tiny.c",))
 BOARD = Format("board", board_images.FULL, lambda rnd: rnd.choice([0, board_images.FULL - (1 << rnd.randint(8, 16)), rnd.getrandbits(17)]),
-               4, 4, 262144, range(20, 34), 32, (42,), board_images.images)
+               4, 4, 262144, range(20, 34), 32, (42,), board_images.images, board_runs, ("board.c", "board_write.c"))
 
 
 # what is not freed at the end is no mistake here, and looking for it needs rights that a build machine may not give
@@ -60,11 +64,11 @@ def fail(text):
     sys.exit(1)
 
 
-def build(folder, name, source, *libraries):
+def build(folder, name, *sources):
     """A C program, with the sanitizers: its own mistakes must not count as answers."""
     program = os.path.join(folder, name)
     subprocess.run(["gcc", "-std=c11", "-O2", "-Wall", "-Wextra", "-pedantic", "-Werror", "-fsanitize=address,undefined",
-                    "-fno-sanitize-recover=all", "-o", program, source, *libraries], check=True)
+                    "-fno-sanitize-recover=all", "-o", program, *sources], check=True)
     return program
 
 
@@ -91,7 +95,8 @@ def complaint(program, given):
 
 def stored_answers(references):
     """What the gate compares these programs with is what the references answer."""
-    for form, command, crate in ((TINY, "write", "tiny_write"), (BOARD, "answers", "board_answers"), (BOARD, "list", "board_list")):
+    for form, command, crate in ((TINY, "write", "tiny_write"), (BOARD, "answers", "board_answers"), (BOARD, "list", "board_list"),
+                                 (BOARD, "write", "board_write"), (BOARD, "choice", "choice_answers")):
         with open("crates/%s/stdin" % crate, "rb") as given, open("crates/%s/stdout" % crate, "rb") as stored:
             if output(references[form], command, given=given.read()) != stored.read():
                 fail("crates/%s/stdout is not what tests/reference/%s.c answers" % (crate, form.name))
@@ -109,12 +114,36 @@ def long_sample(form, name, length, listing):
 def long_run(references):
     """A run of records that ends where reading does is answered whole; of a longer one the record that is cut is not answered."""
     image = board_images.case_13()
-    image += bytes(65536 - 8 - len(image))
-    for front, answered in ((b"", 4), (record(BOARD, 0, b""), 4)):
-        run = front + record(BOARD, BOARD.full, image) * 5
-        ours, theirs = output(os.path.join(BIN, "board_answers"), given=run), output(references[BOARD], "answers", given=run)
-        if ours != theirs or ours.count(b"list ") != answered:
-            fail("of a run of over 262,144 bytes %d and %d records are answered" % (ours.count(b"list "), theirs.count(b"list ")))
+    long, half = image.ljust(65536 - 8, b"\0"), image.ljust(32768 - 6, b"\0")
+    for program, command, small, one in (
+            ("board_answers", "answers", record(BOARD, 0, b""), record(BOARD, BOARD.full, long)),
+            ("choice_answers", "choice", board_runs.record(0, b"", b""), board_runs.record(BOARD.full, half, half))):
+        for run in (one * 5, small + one * 5):
+            ours, theirs = output(os.path.join(BIN, program), given=run), output(references[BOARD], command, given=run)
+            if ours != theirs or ours.count(b"list ") != 4:
+                fail("%s: of a run of over 262,144 bytes %d and %d records are answered"
+                     % (program, ours.count(b"list "), theirs.count(b"list ")))
+
+
+def long_requests(form, reference):
+    """Requests of as many bytes as are read are answered; with a byte more, and where they cannot be read, the writer only complains."""
+    program = form.name + "_write"
+    said = "%s: standard input is over %s bytes or cannot be read\n" % (program, format(form.room, ","))
+    *asked, answer = next(form.runs.requests(0))
+    given = form.runs.line(random.Random(0), *asked).ljust(form.room, b"\n")
+    if output(os.path.join(BIN, program), given=given) != answer.encode() + b"\n":
+        fail("%s does not answer requests of %d bytes" % (program, form.room))
+    if output(reference, "write", given=given) != answer.encode() + b"\n":
+        fail("the reference does not answer requests of %d bytes" % form.room)
+    with tempfile.TemporaryFile() as long:
+        long.write(given + b"\n")
+        long.seek(0)
+        if complaint(program, long) != said.encode():
+            fail("requests of over %d bytes are not refused by %s on standard error" % (form.room, program))
+    folder = os.open(".", os.O_RDONLY)
+    if complaint(program, folder) != said.encode():
+        fail("%s does not say a read error on standard error" % program)
+    os.close(folder)
 
 
 def other_input():
@@ -123,18 +152,10 @@ def other_input():
     long_sample(BOARD, "board-case13", 65536, "board-case13")
     long_sample(BOARD, "board-case13", 65537, "board-refused-20")
     long_sample(BOARD, "board-case13", 10 ** 6, "board-refused-20")
-    said = b"tiny_write: standard input is over 65,536 bytes or cannot be read\n"
-    with tempfile.TemporaryFile() as long:
-        long.write(b"12; 10 01 00; 74 6F 70 B1\n" * 2521)  # 65,546 bytes
-        long.seek(0)
-        if complaint("tiny_write", long) != said:
-            fail("requests of over 65,536 bytes are not refused on standard error")
     folder = os.open(".", os.O_RDONLY)
     for program in ("tiny_list", "board_list"):
         if complaint(program, folder) != b"%s: standard input cannot be read\n" % program.encode():
             fail("%s does not say a read error on standard error" % program)
-    if complaint("tiny_write", folder) != said:
-        fail("a read error is not said on standard error")
     os.close(folder)
 
 
@@ -240,24 +261,24 @@ def boundary(folder, seed):
     return len(made)
 
 
-def lines(made, seed):
+def lines(form, made, seed):
     """Lines for the writer: the requests, and among them lines that are none, and empty ones. With each goes what must be answered:
     a line, None where that is not known, or "" for no line at all."""
     rnd = random.Random(seed)
-    others = tiny_images.cycle(rnd, tiny_runs.OTHER_LINES)
-    for room, run, pool, said in made:
-        yield tiny_runs.line(rnd, room, run, pool), said
+    others = tiny_images.cycle(rnd, form.runs.OTHER_LINES)
+    for *asked, said in made:
+        yield form.runs.line(rnd, *asked), said
         if rnd.random() < 0.02:
             yield next(others), "not a request"
         if rnd.random() < 0.02:
             yield b"", ""
 
 
-def line_runs(made, seed):
-    """The lines in runs of less than 65,536 bytes; the last line of every other run has no newline."""
+def line_runs(form, made, seed):
+    """The lines in runs of less bytes than are read; the last line of every other run has no newline."""
     run, expected, newline = b"", [], True
-    for line, said in lines(made, seed):
-        if len(run) + len(line) + 1 >= ROOM:
+    for line, said in lines(form, made, seed):
+        if len(run) + len(line) + 1 >= form.room:
             yield run if newline else run[:-1], expected
             run, expected, newline = b"", [], not newline
         run += line + b"\n"
@@ -266,16 +287,21 @@ def line_runs(made, seed):
     yield run if newline else run[:-1], expected
 
 
-def compare_writers(reference, made, seed):
+def shortened(text):
+    return text if len(text) <= 10000 else text[:5000] + b" ... " + text[-5000:]
+
+
+def compare_lines(form, reference, made, seed):
     """All answers to the lines; how often each refusal number (0: written) was answered, and how many answers were known before."""
     counts, known = {}, 0
-    for run, expected in line_runs(made, seed):
-        ours = output(os.path.join(BIN, "tiny_write"), given=run).split(b"\n")
+    for run, expected in line_runs(form, made, seed):
+        ours = output(os.path.join(BIN, form.name + "_write"), given=run).split(b"\n")
         theirs = output(reference, "write", given=run).split(b"\n")
         for a, b, (line, said) in zip(ours, theirs, expected):
             if a != b or said is not None and a != said.encode():
-                fail("%r (made to be %s):\n%r\nreference:\n%r" % (line, said, a, b))
-            words = a.decode().split()
+                made_to_be = "anything" if said is None else shortened(said.encode())
+                fail("%r (made to be %r):\n%r\nreference:\n%r" % (shortened(line), made_to_be, shortened(a), shortened(b)))
+            words = a[:40].decode().split()
             key = int(words[1]) if words[0] == "refused" else 0 if words[0] == "length" else "none"
             counts[key] = counts.get(key, 0) + 1
             known += said is not None
@@ -284,31 +310,77 @@ def compare_writers(reference, made, seed):
     return counts, known
 
 
+def compare_writers(form, reference, number, seed):
+    """The requests to the writer of a format: every answer, each refusal number reached."""
+    order = form.runs.ORDER
+    counts, known = compare_lines(form, reference, itertools.islice(form.runs.requests(seed), number), seed)
+    print("tests: %d lines to the %s writer answered as by tests/reference/%s, %d of them with an answer known before"
+          % (sum(counts.values()), form.name, form.sources[-1], known))
+    print("tests: written %d; refused " % counts.get(0, 0) + ", ".join("%d: %d" % (n, counts.get(n, 0)) for n in order)
+          + "; no request %d" % counts.get("none", 0))
+    missing = [n for n in (0, *order) if not counts.get(n)]
+    if missing:
+        fail("no request to the %s writer was answered with %s" % (form.name, missing))
+    others = sorted(set(counts) - {0, "none", *order}, key=str)
+    if others or 2 * known < sum(counts.values()):
+        fail("the %s writer said %s, and %d answers were known before" % (form.name, others, known))
+
+
+def pair_runs(made):
+    """Records of the pairs, in runs of at most as many bytes as are read."""
+    run, expected = bytearray(), []
+    for mask, firmware, eeprom, said in made:
+        one = board_runs.record(mask, firmware, eeprom)
+        if len(run) + len(one) > BOARD.room:
+            yield bytes(run), expected
+            run, expected = bytearray(), []
+        run += one
+        expected.append((mask, firmware, eeprom, said))
+    yield bytes(run), expected
+
+
+def compare_choices(reference, number, seed):
+    """The pairs of images: which is chosen, with all of its bytes; each outcome reached."""
+    counts, known = {"firmware": 0, "eeprom": 0, "neither": 0}, 0
+    for run, expected in pair_runs(itertools.islice(board_runs.pairs(seed), number)):
+        ours = output(os.path.join(BIN, "choice_answers"), given=run).split(b"list ")[1:]
+        theirs = output(reference, "choice", given=run).split(b"list ")[1:]
+        if not len(ours) == len(theirs) == len(expected):
+            fail("%d pairs of images, %d and %d answered" % (len(expected), len(ours), len(theirs)))
+        for a, b, (mask, firmware, eeprom, said) in zip(ours, theirs, expected):
+            if a != b or said is not None and b"list " + a != board_runs.choice_text(mask, firmware, eeprom, said).encode():
+                with open("target/different.bin", "wb") as f:
+                    f.write(board_runs.record(mask, firmware, eeprom))
+                fail("list %d, images in target/different.bin (made to be %s):\n%r\nreference:\n%r"
+                     % (mask, said, shortened(a), shortened(b)))
+            counts[a.split(None, 2)[1].decode()] += 1
+            known += said is not None
+    print("tests: %d pairs of images, the choice as by tests/reference/board_write.c, %d of them with an answer known before"
+          % (sum(counts.values()), known))
+    print("tests: chosen " + ", ".join("%s %d" % count for count in counts.items()))
+    if not all(counts.values()) or 2 * known < sum(counts.values()):
+        fail("of %d pairs %s were chosen, and %d answers were known before" % (number, counts, known))
+
+
 def main():
     os.chdir(os.path.join(os.path.dirname(os.path.abspath(__file__)), ".."))
     number = int(sys.argv[1]) if len(sys.argv) > 1 else 20000
     seed = int(sys.argv[2]) if len(sys.argv) > 2 else 1
     boards = int(sys.argv[3]) if len(sys.argv) > 3 else 12000
     with tempfile.TemporaryDirectory() as folder:
-        references = {form: build(folder, form.name, "tests/reference/%s.c" % form.name) for form in (TINY, BOARD)}
+        references = {form: build(folder, form.name, *("tests/reference/" + name for name in form.sources)) for form in (TINY, BOARD)}
         print("tests: %d samples listed as stored" % samples(references))
         stored_answers(references)
         other_input()
         long_run(references)
+        for form in (TINY, BOARD):
+            long_requests(form, references[form])
         compare_readers(TINY, references[TINY], number, seed)
         compare_readers(BOARD, references[BOARD], boards, seed)
         print("tests: %d images lent to C functions between pages that cannot be read, answered as they should be" % boundary(folder, seed))
-        counts, known = compare_writers(references[TINY], itertools.islice(tiny_runs.requests(seed), max(number, REQUESTS)), seed)
-        print("tests: %d lines to the writer answered as by tests/reference/tiny.c, %d of them with an answer known before"
-              % (sum(counts.values()), known))
-        print("tests: written %d; refused " % counts.get(0, 0) + ", ".join("%d: %d" % (n, counts.get(n, 0)) for n in tiny_runs.ORDER)
-              + "; no request %d" % counts.get("none", 0))
-        missing = [n for n in (0, *tiny_runs.ORDER) if not counts.get(n)]
-        if missing:
-            fail("no request was answered with %s" % missing)
-        others = sorted(set(counts) - {0, "none", *tiny_runs.ORDER}, key=str)
-        if others or 2 * known < sum(counts.values()):
-            fail("the writer said %s, and %d answers were known before" % (others, known))
+        compare_writers(TINY, references[TINY], max(number, REQUESTS), seed)
+        compare_writers(BOARD, references[BOARD], boards // 3, seed)
+        compare_choices(references[BOARD], boards // 3, seed)
 
 
 main()

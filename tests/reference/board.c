@@ -1,43 +1,23 @@
 /*
- * A reader and lister of board images in C, to hold the Rattle code against. tests/README.md says what it was written from.
+ * A reader, lister and writer of board images in C, to hold the Rattle code against. tests/README.md says what it was written from.
  *
  *     board list < image         the listing of docs/LISTING.md, full list
- *     board answers < records    every answer, for a run of images with their lists; tests/README.md has the form
+ *     board answers < records    every answer, for a run of images with their lists
+ *     board write < requests     the image of each request, or why there is none (board_write.c)
+ *     board choice < records     which of two images is chosen, for a run of pairs with their lists (board_write.c)
  *
- * Exit: 0 whenever it answered, 2 on a wrong command line, 3 if standard input or output failed.
+ * tests/README.md has the forms. Exit: 0 whenever it answered, 2 on a wrong command line, 3 if standard input or output failed or there
+ * was too much input.
  */
-#include <stdbool.h>
-#include <stdint.h>
+#include "board.h"
+
 #include <stdio.h>
 #include <stdlib.h>
 #include <string.h>
 
-enum {
-    HEAD = 0x10,           /* the generic head of a structure */
-    HEADER = 0x30,         /* the structure $Eeprom$ */
-    LABEL = 0x10,          /* a label, or a board's name */
-    LONGEST = 0x10000,     /* an image */
-    MOST = LONGEST / HEAD, /* structures in an image */
-    ASKED = 24,            /* items asked for by number, besides the one at the count */
-    FULL_LIST = 0x1FFFF
-};
+enum { ASKED = 24 }; /* items asked for by number, besides the one at the count */
 
 #define NOWHERE UINT32_MAX /* the place of a rule that is not broken */
-
-/* refusal 0 is "not refused"; a refused answer has a value of 0 */
-struct answer {
-    unsigned refusal;
-    uint32_t place;
-    unsigned value; /* judge: count of items; else 0 */
-};
-
-static struct answer refuse(unsigned number, uint32_t place) {
-    return (struct answer){number, place, 0};
-}
-
-static struct answer accept(unsigned value) {
-    return (struct answer){0, 0, value};
-}
 
 /* ---- the tables of layout paper 000, without the generic head; Crc32 is never shown and so is not here ---- */
 
@@ -95,23 +75,6 @@ static const struct kind kinds[KINDS] = {
 
 /* ---- the parts of an image ---- */
 
-/* a structure: its first byte's place, its Length, and its kind or null for a signature that is none of the thirteen */
-struct span {
-    uint32_t place, length;
-    const struct kind *kind;
-};
-
-/* what is lent to a reader, and what its judge found */
-struct board {
-    const uint8_t *image;
-    size_t lent;
-    uint32_t list;
-    struct answer judged;
-    uint32_t length;         /* StructLen; set by rule 22 */
-    unsigned count;          /* structures; set by rule 23 with their places */
-    struct span spans[MOST];
-};
-
 /* a number of one to four bytes, low byte first */
 static uint32_t number(const struct board *b, uint32_t at, unsigned size) {
     uint32_t value = 0;
@@ -150,8 +113,7 @@ static bool is_known(const struct board *b, const struct span *s) {
     return s->kind->bit == EVERY || ((b->list >> s->kind->bit & 1) && major_of(b, s) == 1);
 }
 
-/* the last structure, if it is a $PromSig */
-static const struct span *signature_of(const struct board *b) {
+const struct span *signature_of(const struct board *b) {
     const struct span *last = &b->spans[b->count - 1];
     return is(last, PROMSIG) ? last : NULL;
 }
@@ -167,8 +129,7 @@ static uint32_t record_place(const struct span *s, unsigned record) {
     return s->place + s->kind->fixed + record * s->kind->record_size;
 }
 
-/* CRC-32 of IEEE 802.3 over the first bytes, the four of Crc32 counted as zero */
-static uint32_t crc32(const struct board *b, uint32_t count) {
+uint32_t crc32(const struct board *b, uint32_t count) {
     uint32_t crc = 0xFFFFFFFF;
     for (uint32_t i = 0; i < count; i++) {
         crc ^= i >= 0x14 && i < 0x18 ? 0 : b->image[i];
@@ -256,9 +217,13 @@ static uint32_t rule_26(struct board *b) {
     return NOWHERE;
 }
 
-static uint32_t rule_27(struct board *b) {
+uint32_t summed_length(const struct board *b) {
     const struct span *sig = signature_of(b);
-    uint32_t expected = sig ? sig->place + 0x20 : b->length;
+    return sig ? sig->place + 0x20 : b->length;
+}
+
+static uint32_t rule_27(struct board *b) {
+    uint32_t expected = summed_length(b);
     if (number(b, 0x14, 4) != crc32(b, expected))
         return 0x14;
     return number(b, 0x18, 4) != expected ? 0x18 : NOWHERE;
@@ -375,8 +340,8 @@ static uint32_t rule_33(struct board *b) {
     return NOWHERE;
 }
 
-/* Judges what is lent; everything below asks what was found here. */
-static void judge(struct board *b, const uint8_t *image, size_t lent, uint32_t list) {
+/* everything below asks what was found here */
+void judge(struct board *b, const uint8_t *image, size_t lent, uint32_t list) {
     static uint32_t (*const rules[])(struct board *) = {rule_20, rule_21, rule_22, rule_23, rule_24, rule_25, rule_26,
                                                         rule_27, rule_28, rule_29, rule_30, rule_31, rule_32, rule_33};
     b->image = image;
@@ -609,7 +574,7 @@ static bool lend(const uint8_t *bytes, size_t lent, uint32_t list, void (*answer
     return true;
 }
 
-static uint32_t four(const uint8_t *bytes) {
+uint32_t four(const uint8_t *bytes) {
     return bytes[0] | (uint32_t)bytes[1] << 8 | (uint32_t)bytes[2] << 16 | (uint32_t)bytes[3] << 24;
 }
 
@@ -627,18 +592,26 @@ static bool answer_run(const uint8_t *input, size_t length) {
     return true;
 }
 
+static bool list_run(const uint8_t *input, size_t length) {
+    return lend(input, length, FULL_LIST, list_image);
+}
+
 int main(int argc, char **argv) {
-    const char *command = argc == 2 ? argv[1] : "";
-    bool list = strcmp(command, "list") == 0, answers = strcmp(command, "answers") == 0;
-    if (!list && !answers) {
-        fputs("usage: board list | board answers, input on standard input\n", stderr);
-        return 2;
+    static const struct {
+        const char *name;
+        size_t most; /* bytes that are read */
+        bool (*run)(const uint8_t *, size_t);
+    } commands[] = {{"list", LONGEST + 1, list_run}, {"answers", INPUT, answer_run}, {"write", INPUT + 1, answer_requests},
+                    {"choice", INPUT, answer_choices}};
+    static uint8_t input[INPUT + 1];
+    for (unsigned i = 0; i < sizeof commands / sizeof *commands; i++) {
+        if (argc != 2 || strcmp(argv[1], commands[i].name) != 0)
+            continue;
+        size_t length = fread(input, 1, commands[i].most, stdin);
+        if (ferror(stdin) || !commands[i].run(input, length))
+            return 3;
+        return fflush(stdout) || ferror(stdout) ? 3 : 0;
     }
-    static uint8_t input[262144];
-    size_t length = fread(input, 1, list ? LONGEST + 1 : sizeof input, stdin);
-    if (ferror(stdin))
-        return 3;
-    if (!(list ? lend(input, length, FULL_LIST, list_image) : answer_run(input, length)))
-        return 3;
-    return fflush(stdout) || ferror(stdout) ? 3 : 0;
+    fputs("usage: board list | board answers | board write | board choice, input on standard input\n", stderr);
+    return 2;
 }

@@ -62,7 +62,11 @@ fn laid_record(records: &[u8], block: u32, k: u32) -> [u8; 32]
     ensures { λ r. ⌜ r ≡ laidRecord (now (records .entry)) block k ⌝ }
 {
     let at = 17 * k as usize;
-    record_bytes(sixteen_at(records, at), times(k, block), byte_from(records, at, 16))
+    record_bytes(
+        sixteen_at(records, at),
+        times(k, block),
+        byte_from(records, at, 16),
+    )
 }
 
 // The records of a run, laid from place 60h of an image on.

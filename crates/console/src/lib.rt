@@ -5,7 +5,12 @@ use libc::STDOUT_FILENO;
 use octets::Six;
 use octets::label::is_text;
 ghost use mathlib.Core.Path.{_≡_};
+ghost use Prim.Native.Nat.{_≤_};
+ghost use lib.ListN.{length};
 ghost use Rattle.console.specs.Digit.{hexDigit};
+
+pub mod request;
+pub mod written;
 
 // Bytes as they are.
 pub fn put(text: &[u8]) {
@@ -60,6 +65,30 @@ pub fn put_bytes(bytes: &[u8]) {
         put_hex(bytes[i]);
         i += 1;
     }
+}
+
+// At most 1,024 bytes, each as a blank and two digits.
+fn put_block(bytes: &[u8])
+    requires { ⌜ length (now bytes) ≤ 1024 ⌝ }
+{
+    let mut text = [b' '; 3072];
+    let mut i = 0;
+    while i < bytes.len() {
+        text[3 * i + 1] = digit(bytes[i] / 16);
+        text[3 * i + 2] = digit(bytes[i]);
+        i += 1;
+    }
+    put(&text[..3 * i]);
+}
+
+// Bytes, each as a blank and two digits.
+pub fn put_spaced(bytes: &[u8]) {
+    let mut at = 0;
+    while 1024 < bytes.len() - at {
+        put_block(&bytes[at..at + 1024]);
+        at += 1024;
+    }
+    put_block(&bytes[at..]);
 }
 
 // One character.

@@ -3,23 +3,33 @@
 use console::at_end;
 use console::complain;
 use console::put;
+use console::request::bytes_of;
+use console::request::first_of;
+use console::request::number_of;
+use console::request::semicolons;
+use console::written::put_written;
 use libc::STDIN_FILENO;
-use request::MOST;
-use request::first_of;
+use tiny_writer::write;
 
-mod answer;
-mod request;
+// The most bytes that a part may have, and the longest buffer.
+const MOST: usize = 1024;
 
-// Answers the request of these three texts, with a pool or none; false if one of them cannot be read.
-fn serve(room_text: &[u8], run_text: &[u8], pool_text: &[u8], pooled: bool) -> bool {
-    let room = request::number(room_text);
+// Has an image written to the buffer, and prints the answer with what the buffer then holds.
+fn put_image(items: &[u8], pool: &[u8], pooled: bool, buffer: &mut [u8]) {
+    let answer = write(items, pool, pooled, buffer);
+    put_written(answer, buffer);
+}
+
+// Answers the request of a line, with a pool or none; false if a part of it cannot be read.
+fn serve(line: &[u8], pooled: bool) -> bool {
+    let room = number_of(line, 0, MOST as u32);
     let mut items = [0u8; MOST];
-    let run = request::bytes(run_text, &mut items);
+    let run = bytes_of(line, 1, &mut items);
     let mut data = [0u8; MOST];
-    let pool = request::bytes(pool_text, &mut data);
+    let pool = bytes_of(line, 2, &mut data);
     if room.good && run.good && pool.good {
         let mut buffer = [0xAAu8; MOST];
-        answer::put_written(
+        put_image(
             &items[..run.count],
             &data[..pool.count],
             pooled,
@@ -30,20 +40,11 @@ fn serve(room_text: &[u8], run_text: &[u8], pool_text: &[u8], pooled: bool) -> b
     false
 }
 
-// The same, of a run that may have a pool after it.
-fn serve_parts(room: &[u8], parts: &[u8]) -> bool {
-    let end = first_of(parts, b';');
-    if end < parts.len() {
-        return serve(room, &parts[..end], &parts[end + 1..], true);
-    }
-    serve(room, parts, b"", false)
-}
-
-// One line.
+// One line, with one semicolon or two.
 fn serve_line(line: &[u8]) {
-    let end = first_of(line, b';');
-    if end < line.len() {
-        if serve_parts(&line[..end], &line[end + 1..]) {
+    let cuts = semicolons(line);
+    if cuts == 1 || cuts == 2 {
+        if serve(line, cuts == 2) {
             return;
         }
     }

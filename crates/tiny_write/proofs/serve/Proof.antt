@@ -1,45 +1,48 @@
 -- `serve` meets its contract: the room is within the block that is lent. Assumes nothing.
-use native.Mathlib.Omega.{arith}
 use lib.ListN.{length-take}
+use native.Mathlib.Omega.{arith}
 use borrow.Author.Needs.{needs}
 use Rattle.tiny_write.proofs.serve.Statement.{statement}
 use Rattle.tiny_write.proofs.serve.Tie as tie
 
-number-requires : tie.Need-number-requires
-number-requires c κs = search needs
+cast-number-of : tie.Need-cast-number-of
+cast-number-of c = search needs
 
-slice-aggregate-bytes : tie.Need-slice-aggregate-bytes
-slice-aggregate-bytes c = search needs
+number-of-requires : tie.Need-number-of-requires
+number-of-requires c κs = search needs
 
-bytes-requires : tie.Need-bytes-requires
-bytes-requires c κs = search needs
+slice-aggregate-bytes-of : tie.Need-slice-aggregate-bytes-of
+slice-aggregate-bytes-of c = search needs
 
-slice-aggregate-bytes-2 : tie.Need-slice-aggregate-bytes-2
-slice-aggregate-bytes-2 c = search needs
+bytes-of-requires : tie.Need-bytes-of-requires
+bytes-of-requires c κs = search needs
 
-bytes-requires-2 : tie.Need-bytes-requires-2
-bytes-requires-2 c κs = search needs
+slice-aggregate-bytes-of-2 : tie.Need-slice-aggregate-bytes-of-2
+slice-aggregate-bytes-of-2 c = search needs
+
+bytes-of-requires-2 : tie.Need-bytes-of-requires-2
+bytes-of-requires-2 c κs = search needs
 
 array-share-prefix-items : tie.Need-array-share-prefix-items
 array-share-prefix-items c = search needs
 
-slice-aggregate-put-written : tie.Need-slice-aggregate-put-written
-slice-aggregate-put-written c = search needs
+slice-aggregate-put-image : tie.Need-slice-aggregate-put-image
+slice-aggregate-put-image c = search needs
 
 array-share-prefix-data : tie.Need-array-share-prefix-data
 array-share-prefix-data c = search needs
 
-slice-aggregate-put-written-2 : tie.Need-slice-aggregate-put-written-2
-slice-aggregate-put-written-2 c = search needs
+slice-aggregate-put-image-2 : tie.Need-slice-aggregate-put-image-2
+slice-aggregate-put-image-2 c = search needs
 
 array-borrow-prefix-buffer : tie.Need-array-borrow-prefix-buffer
 array-borrow-prefix-buffer c = search needs
 
-slice-aggregate-put-written-3 : tie.Need-slice-aggregate-put-written-3
-slice-aggregate-put-written-3 c = simp length-take (omega arith)
+slice-aggregate-put-image-3 : tie.Need-slice-aggregate-put-image-3
+slice-aggregate-put-image-3 c = simp length-take (omega arith)
 
-put-written-requires : tie.Need-put-written-requires
-put-written-requires c κs = simp length-take (omega arith)
+put-image-requires : tie.Need-put-image-requires
+put-image-requires c κs = search needs
 
 returns : tie.Need-returns
 returns c = search needs
@@ -51,17 +54,18 @@ pub serve-spec : {M : Type 1} → statement M
 serve-spec =
     tie.close
     (tie.spec
-    number-requires
-    slice-aggregate-bytes
-    bytes-requires
-    slice-aggregate-bytes-2
-    bytes-requires-2
+    cast-number-of
+    number-of-requires
+    slice-aggregate-bytes-of
+    bytes-of-requires
+    slice-aggregate-bytes-of-2
+    bytes-of-requires-2
     array-share-prefix-items
-    slice-aggregate-put-written
+    slice-aggregate-put-image
     array-share-prefix-data
-    slice-aggregate-put-written-2
+    slice-aggregate-put-image-2
     array-borrow-prefix-buffer
-    slice-aggregate-put-written-3
-    put-written-requires
+    slice-aggregate-put-image-3
+    put-image-requires
     returns
     returns-2)

@@ -1,16 +1,16 @@
--- `request::first_of` meets its contract: each turn goes on by a byte of the line. Assumes nothing.
+-- `request::past_blanks` meets its contract: each turn goes on by a byte of the part. Assumes nothing.
 use Prim.Native.Nat.{_-_}
 use native.Mathlib.Omega.{arith}
 use lib.ListN.{length}
-use Rattle.io.proofs.Counting.{counts}
-use Rattle.tiny_write.proofs.request.first_of.Statement.{statement}
-use Rattle.tiny_write.proofs.request.first_of.Tie as tie
+use borrow.Author.Needs.{needs}
+use Rattle.console.proofs.request.past_blanks.Statement.{statement}
+use Rattle.console.proofs.request.past_blanks.Tie as tie
 
 abbrev Inv-loop : tie.InvT-loop
-Inv-loop line b at₀ at = Unit {0}
+Inv-loop part from at₀ at = Unit {0}
 
 abbrev μ-loop : tie.MeasureT-loop
-μ-loop line b at₀ at = length line - at
+μ-loop part from at₀ at = length part - at
 
 loop-holds : tie.Need-loop-holds Inv-loop μ-loop
 loop-holds c = tt
@@ -19,7 +19,7 @@ shared-slice-read-if1 : tie.Need-shared-slice-read-if1 Inv-loop μ-loop
 shared-slice-read-if1 c = omega arith
 
 returns : tie.Need-returns Inv-loop μ-loop
-returns c = counts _ _ (omega arith)
+returns c = search needs
 
 add-at : tie.Need-add-at Inv-loop μ-loop
 add-at c = omega arith
@@ -31,10 +31,10 @@ loop-again : tie.Need-loop-again Inv-loop μ-loop
 loop-again c = tt
 
 returns-2 : tie.Need-returns-2 Inv-loop μ-loop
-returns-2 c = counts _ _ (omega arith)
+returns-2 c = search needs
 
-pub first-of-spec : {M : Type 1} → statement M
-first-of-spec =
+pub past-blanks-spec : {M : Type 1} → statement M
+past-blanks-spec =
     tie.close
     (tie.spec
     Inv-loop

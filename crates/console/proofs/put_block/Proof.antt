@@ -1,11 +1,11 @@
--- `answer::put_bytes` meets its contract: each turn fills three characters of 3,072, and there are at most 1,024 bytes. Assumes nothing.
+-- `put_block` meets its contract: each turn fills three characters of 3,072, and there are at most 1,024 bytes. Assumes nothing.
 use Prim.Native.Nat.{_-_, _≤_}
 use mathlib.Core.Path.{_≡_}
 use native.Mathlib.Omega.{arith}
 use lib.ListN.{length, length-take}
 use borrow.Author.Needs.{needs}
-use Rattle.tiny_write.proofs.answer.put_bytes.Statement.{statement}
-use Rattle.tiny_write.proofs.answer.put_bytes.Tie as tie
+use Rattle.console.proofs.put_block.Statement.{statement}
+use Rattle.console.proofs.put_block.Tie as tie
 
 abbrev Inv-loop : tie.InvT-loop
 Inv-loop bytes text₀ i₀ text i = (i ≤ length bytes) × (length text ≡ 3072)
@@ -70,8 +70,8 @@ put-requires c κs = omega arith
 returns : tie.Need-returns Inv-loop μ-loop
 returns c = search needs
 
-pub put-bytes-spec : {M : Type 1} → statement M
-put-bytes-spec =
+pub put-block-spec : {M : Type 1} → statement M
+put-block-spec =
     tie.close
     (tie.spec
     Inv-loop

@@ -1,11 +1,9 @@
-// The parts of a request: a decimal number, and bytes in hexadecimal.
+// The parts of a request, a line with semicolons between them: decimal numbers, and bytes in hexadecimal.
 use octets::byte_from;
 ghost use mathlib.Core.Path.{_≡_};
 ghost use Prim.Native.Nat.{_≤_};
+ghost use lib.ListN.{length};
 ghost use Rattle.io.specs.Counts.{Counts};
-
-// The most bytes that a part may have, and the longest buffer.
-pub const MOST: usize = 1024;
 
 // Whether a part could be read; and the number, or how many bytes there are.
 pub struct Part {
@@ -31,6 +29,39 @@ pub fn first_of(line: &[u8], b: u8) -> usize
     while at < line.len() {
         if line[at] == b {
             return at;
+        }
+        at += 1;
+    }
+    line.len()
+}
+
+// How many semicolons a line has.
+pub fn semicolons(line: &[u8]) -> usize
+    ensures { λ r. ⌜ r ≤ length (now (line .entry)) ⌝ }
+{
+    let mut at = 0;
+    let mut n = 0;
+    while at < line.len() {
+        if line[at] == b';' {
+            n += 1;
+        }
+        at += 1;
+    }
+    n
+}
+
+// Where part n of a line begins, counted from 0: behind as many semicolons; the end without so many.
+fn part_start(line: &[u8], n: usize) -> usize
+    ensures { λ r. ⌜ Counts r (now (line .entry)) ⌝ }
+{
+    let mut left = n;
+    let mut at = 0;
+    while at < line.len() {
+        if left == 0 {
+            return at;
+        }
+        if line[at] == b';' {
+            left -= 1;
         }
         at += 1;
     }
@@ -63,10 +94,11 @@ fn value(c: u8) -> u8 {
     16
 }
 
-// A decimal number of at most MOST, with blanks around it.
-pub fn number(part: &[u8]) -> Part
-    ensures { λ r. ⌜ r .count ≤ 1024 ⌝ }
+// A decimal number, at most `most`, with blanks around it.
+fn number(part: &[u8], most: u32) -> Part
+    ensures { λ r. ⌜ r .count ≤ most ⌝ }
 {
+    let bound = most as usize;
     let start = past_blanks(part, 0);
     let mut at = start;
     let mut n = 0;
@@ -79,7 +111,7 @@ pub fn number(part: &[u8]) -> Part
             };
         }
         n = n * 10 + d;
-        if MOST < n {
+        if bound < n {
             return bad_part();
         }
         at += 1;
@@ -104,7 +136,7 @@ fn two_digits(part: &[u8], at: usize) -> u16 {
 }
 
 // Bytes of two digits each, with blanks between them and around, put at the front of `out`.
-pub fn bytes(part: &[u8], out: &mut [u8]) -> Part
+fn bytes(part: &[u8], out: &mut [u8]) -> Part
     ensures { λ r. ⌜ Counts (r .count) (now (out .exit)) ⌝ }
 {
     let mut at = 0;
@@ -129,4 +161,22 @@ pub fn bytes(part: &[u8], out: &mut [u8]) -> Part
         good: true,
         count: n,
     }
+}
+
+// The number that part n of a line is, at most `most`.
+pub fn number_of(line: &[u8], n: usize, most: u32) -> Part
+    ensures { λ r. ⌜ r .count ≤ most ⌝ }
+{
+    let start = part_start(line, n);
+    let end = start + first_of(&line[start..], b';');
+    number(&line[start..end], most)
+}
+
+// The bytes that part n of a line gives, put at the front of `out`; a line without a part n gives none.
+pub fn bytes_of(line: &[u8], n: usize, out: &mut [u8]) -> Part
+    ensures { λ r. ⌜ Counts (r .count) (now (out .exit)) ⌝ }
+{
+    let start = part_start(line, n);
+    let end = start + first_of(&line[start..], b';');
+    bytes(&line[start..end], out)
 }

@@ -1,16 +1,19 @@
--- `request::number` meets its contract: the number stays at most 1,024, and each turn goes on by a digit. Assumes nothing.
+-- `request::number` meets its contract: the number stays at most the greatest, and each turn goes on by a digit. Assumes nothing.
 use Prim.Native.Nat.{_-_, _≤_}
 use native.Mathlib.Omega.{arith}
 use lib.ListN.{length}
 use borrow.Author.Needs.{needs}
-use Rattle.tiny_write.proofs.request.number.Statement.{statement}
-use Rattle.tiny_write.proofs.request.number.Tie as tie
+use Rattle.console.proofs.request.number.Statement.{statement}
+use Rattle.console.proofs.request.number.Tie as tie
 
 abbrev Inv-loop : tie.InvT-loop
-Inv-loop part start at₀ n₀ at n = n ≤ 1024
+Inv-loop part most bound start at₀ n₀ at n = n ≤ most
 
 abbrev μ-loop : tie.MeasureT-loop
-μ-loop part start at₀ n₀ at n = length part - at
+μ-loop part most bound start at₀ n₀ at n = length part - at
+
+cast-bound : tie.Need-cast-bound Inv-loop μ-loop
+cast-bound c = omega arith
 
 past-blanks-requires : tie.Need-past-blanks-requires Inv-loop μ-loop
 past-blanks-requires c κs = omega arith
@@ -66,6 +69,7 @@ number-spec =
     (tie.spec
     Inv-loop
     μ-loop
+    cast-bound
     past-blanks-requires
     loop-holds
     shared-slice-read-value

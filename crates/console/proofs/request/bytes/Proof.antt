@@ -5,8 +5,8 @@ use native.Mathlib.Omega.{arith}
 use lib.ListN.{length}
 use borrow.Author.Needs.{needs}
 use Rattle.io.proofs.Counting.{counts}
-use Rattle.tiny_write.proofs.request.bytes.Statement.{statement}
-use Rattle.tiny_write.proofs.request.bytes.Tie as tie
+use Rattle.console.proofs.request.bytes.Statement.{statement}
+use Rattle.console.proofs.request.bytes.Tie as tie
 
 abbrev Inv-loop : tie.InvT-loop
 Inv-loop part out₀ at₀ n₀ out at n = (n ≤ length out₀) × (length out ≡ length out₀)

@@ -1,0 +1,858 @@
+#!/usr/bin/env python3
+"""Requests to the board writer, and pairs of images for the choice.
+
+`requests(seed)` gives requests for ever, each as (room, request, answer): how many bytes of buffer are lent, the five parts of the
+request (Request), and the line that must be answered by the way the request was made, or None where the maker does not know. There are
+good ones of every kind, each refusal on both sides of its bound, several refusals at once, truncations, images of board_images.py taken
+apart, and random bytes. `pairs(seed)` gives pairs for ever, each as (list, firmware, EEPROM, answer): the two images, and the line that
+says which is chosen, or None. There are all of accepted and refused, boards that differ in one byte, Versions on both sides of each
+other, and lists with which only one image is accepted. The same seed gives the same. Both come from groups taken in turn (GROUPS and
+PAIRS). A group walks round its list of variants, and puts each into fresh random surroundings.
+
+`line(rnd, room, request)` is a request as tests/README.md has it, and `OTHER_LINES` are lines that are none. `record(list, firmware,
+eeprom)` is a pair as tests/README.md has it, and `choice_text` is all that must be answered to it.
+
+    board_runs.py requests >crates/board_write/stdin    cases 12 and 13, what is beside them, each refusal but 40, lines that are none
+    board_runs.py pairs >crates/choice_answers/stdin    case 11, what is beside it, several lists
+
+What they must be answered with is made by tests/reference/board_write.c: `board write` and `board choice`.
+"""
+import collections
+import itertools
+import random
+import sys
+
+import board_images
+from board_images import BOARD, EEPROM, FPGA, FULL, GPIO, HASHES, LISTED, LONGEST, LOGO, MAP, PROMSIG, RESERVED, SIGNED
+from board_images import Board, crc_of, cut_points, labelled, le, lend, plain, rich, some, some_bytes, some_known
+from board_images import some_label, some_map, some_name, some_number, some_others, some_promsig, some_unknown, spots, structure, up
+from board_images import with_crc
+from tiny_images import cycle
+from tiny_runs import blanks, in_hex, refused, written
+
+MOST = 65600  # bytes in a buffer, in a run of records and in further bytes
+ORDER = (46, 40, 41, 23, 24, 25, 26, 28, 29, 30, 31, 32, 33, 45)  # which refusal is given if several apply
+GIVEN = 17  # bytes of a record in a run
+PART_SIZE = 0x30 + 0x26  # its place
+
+# Version; the map's fields; the run of records; the board's fields; further bytes
+Request = collections.namedtuple("Request", "version fields records names further")
+
+
+# ---- building ----
+
+def front(n):
+    """Where the board of n records ends, and the further bytes start."""
+    return 0xC0 + 0x20 * n
+
+
+def size_of(request):
+    return front(len(request.records) // GIVEN) + len(request.further)
+
+
+def image_of(request):
+    """The image of a request without a $PromSig."""
+    rows = [request.records[at:at + GIVEN] for at in range(0, len(request.records), GIVEN)]
+    block, total = int.from_bytes(request.fields[16:20], "little"), size_of(request)
+    out = structure(EEPROM, le(total, 4) + bytes(4) + le(total, 4) + request.version + bytes(16))
+    out += structure(MAP, request.fields + bytes(3) + b"".join(
+        row[:16] + le(0x20, 4) + le(k * block & 0xFFFFFFFF, 4) + row[16:] + bytes(7) for k, row in enumerate(rows)))
+    out += structure(BOARD, request.names + bytes(19)) + request.further
+    return with_crc(out, crc_of(out, total))
+
+
+def apart(image, n, end=None):
+    """The parts of an image whose map has n records and whose board follows it."""
+    at = front(n)
+    records = b"".join(image[r:r + 16] + image[r + 0x18:r + 0x19] for r in range(0x60, at - 0x60, 0x20))
+    return Request(*map(bytes, (image[0x1C:0x20], image[0x40:0x5D], records, image[at - 0x50:at - 0x13], image[at:end])))
+
+
+def asked(board, *changes):
+    """The request for a board, changes (place, bytes) made in its image."""
+    return apart(board.image(*changes), board.records())
+
+
+def as_written(board):
+    """VerMinor 0 and zero reserved bytes in the first three structures."""
+    for part in board.parts[:3]:
+        start, end = RESERVED[bytes(part[:8])]
+        part[10:12], part[start:end] = bytes(2), bytes(end - start)
+    for at in range(0x30, len(board.parts[1]), 0x20):
+        board.parts[1][at + 0x19:at + 0x20] = bytes(7)
+    return board
+
+
+def some_writable(rnd, others=None, records=None):
+    """A good board that a writer can make, of any content save what is given."""
+    return as_written(some(rnd, some_others(rnd, signed=0) if others is None else others, records))
+
+
+def enough(rnd, total):
+    """A room in which an image of this length fits."""
+    return rnd.choice([total] * 5 + [total + 1, total + 1, total + 2, total + 16, min(MOST, rnd.randint(total, total + 300))]
+                      + [rnd.choice([LONGEST, MOST])] * (rnd.random() < 0.02))
+
+
+def any_room(rnd):
+    return rnd.choice([0, 0, 1, 0xDF, 0xE0, 0xE1, rnd.randint(0, 2000)] + [rnd.choice([65535, LONGEST, MOST])] * (rnd.random() < 0.03))
+
+
+def answered(request, room, number=0, place=0):
+    """The request, and what is due: a refusal of the reader or 45 if one is given (None: not known), and 46, 40 and 41 before it."""
+    if len(request.records) % GIVEN:
+        number, place = 46, 0
+    elif size_of(request) > LONGEST:
+        number, place = 40, 0
+    elif size_of(request) > room:
+        number, place = 41, 0
+    if number is None:
+        return room, request, None
+    return room, request, refused(room, number, place) if number else written(room, image_of(request))
+
+
+def due(rnd, request, number=0, place=0):
+    """The same in a buffer that is long enough."""
+    return answered(request, enough(rnd, size_of(request)), number, place)
+
+
+def filling(rnd, size):
+    """One structure of so many bytes, of a kind that may have them."""
+    return rnd.choice([some_unknown(rnd, size - 16), some_known(rnd, LOGO, size - 0x20)]) if size >= 0x20 else some_unknown(rnd, size - 16)
+
+
+# ---- images taken apart ----
+
+def records_of(image):
+    """How many records the map has, if the map and the board lie in the image as a writer lays them; else None."""
+    end = int.from_bytes(image[0x10:0x14], "little")
+    n, left = divmod(int.from_bytes(image[0x3C:0x40], "little") - 0x30, 0x20)
+    if left or n < 0 or not front(n) <= end <= len(image) or image[0x30:0x38] != MAP:
+        return None
+    at = front(n) - 0x60
+    return n if image[at:at + 8] == BOARD and image[at + 12:at + 16] == le(0x60, 4) else None
+
+
+def last_place(image):
+    """Where the last structure of an image lies whose walk is good."""
+    at, end = 0x30, int.from_bytes(image[0x10:0x14], "little")
+    while True:
+        ends = at + int.from_bytes(image[at + 12:at + 16], "little")
+        if ends == end:
+            return at
+        at = up(ends)
+
+
+def carried(number, place, n):
+    """Whether what breaks the rule there is given to the writer, and not worked out by it."""
+    if number == 26:
+        return n == 0 and place == 0x30 or place >= front(n)
+    if number == 30:  # not the Length and the Offset of a record
+        return place < 0x60 or (place - 0x60) % 0x20 not in (0x10, 0x14)
+    return number in (28, 31) or number in (23, 24, 25, 29, 32, 33) and place >= front(n)
+
+
+def said_of(image, n, said, alone):
+    """What is due for the parts of an image of which the judge says so much; alone: nothing but that is broken in it. What a writer works
+    out is never broken, and what it is given breaks the same rules in the same places."""
+    words = said.split()
+    if words[0] == "refused":
+        number, place = map(int, words[1:])
+        if carried(number, place, n):
+            return number, place
+    if words[0] == "?" or words[0] == "refused" and not alone:
+        return None, 0
+    last = last_place(image)
+    return (45, last) if image[last:last + 8] == PROMSIG else (0, 0)
+
+
+def can_be_made(image, n):
+    """Whether the first three structures have VerMinor 0, so that an accepted image is rebuilt to the last byte."""
+    return all(image[at + 10:at + 12] == bytes(2) for at in (0, 0x30, front(n) - 0x60))
+
+
+def taken_apart(rnd, made, alone=False):
+    """Images from their own parts: the same image, or the same refusal if what broke the rule was given."""
+    for image, said in made:
+        n = records_of(image)
+        if n is None:
+            continue
+        end = int.from_bytes(image[0x10:0x14], "little")
+        request, (number, place) = apart(image, n, end), said_of(image, n, said, alone)
+        room = rnd.choice([0, end - 1]) if rnd.random() < 0.04 else enough(rnd, end)
+        if said.startswith("accepted") and number == 0 and room >= end and can_be_made(image, n):
+            yield room, request, written(room, image[:end])
+        else:
+            yield answered(request, room, number, place)
+
+
+def made_of(images, alone=False):
+    """The images that a group of board_images makes."""
+    def group(rnd):
+        yield from taken_apart(rnd, images(rnd), alone)
+    group.__name__ = "made of " + images.__name__
+    return group
+
+
+# ---- groups of requests: each yields (room, request, answer) for ever ----
+
+def good_records(rnd):
+    """One to 122 records, with further structures and without; blocks that just hold the image, and as large as may be."""
+    for n, block in cycle(rnd, [(n, b) for n in [*range(1, 123), 1, 2, 3, 121, 122, 122] for b in ("least", "most", "any")]):
+        board = some_writable(rnd, rnd.choice([[], None]), n)
+        least, most = -(-board.end() // n), 0xFFFFFFFF // n
+        board.fit({"least": least, "most": most}.get(block, rnd.randint(least, most)))
+        yield due(rnd, asked(board))
+
+
+def good_further(rnd):
+    """Nothing further; each listed kind; each Length from 16 to 80, last or not; all nine kinds; many."""
+    variants = [("none", 0), ("all", 0), ("many", 0)] * 4 + [("kind", kind) for kind in LISTED] * 2 + [("Length", n) for n in range(16, 81)]
+    for part, v in cycle(rnd, variants):
+        if part == "all":
+            others = rnd.sample([some_known(rnd, kind) for kind in LISTED], len(LISTED))
+        elif part == "many":
+            others = [some_unknown(rnd, rnd.choice([0, 1, 15, 16])) for _ in range(rnd.randint(20, 60))]
+        elif part == "none":
+            others = []
+        else:
+            one = some_known(rnd, v) if part == "kind" else filling(rnd, v)
+            others = some_others(rnd, 1, 0) + [one] + some_others(rnd, 1, 0)
+        yield due(rnd, asked(some_writable(rnd, others)))
+
+
+def rooms(rnd):
+    """A room of a byte less, just enough, a byte more, none at all, any less."""
+    while True:
+        request = asked(some_writable(rnd))
+        total = size_of(request)
+        for room in (total - 1, total, total + 1, rnd.choice([0, 1, rnd.randrange(total)])):
+            yield answered(request, room)
+
+
+def rule_46(rnd):
+    """Runs of records of every length about whole seventeens; whatever else is wrong."""
+    variants = [*range(1, 55), *(17 * n + d for n in (4, 5, 16, 121, 122, 123) for d in (-1, 0, 1))]
+    for length in cycle(rnd, variants):
+        n = max(1, length // GIVEN)
+        board = some_writable(rnd, records=n)
+        request = asked(board)
+        run = (request.records + some_bytes(rnd, GIVEN))[:length]
+        if length % GIVEN:
+            further = rnd.choice([request.further, request.further, b"", some_bytes(rnd, 20), bytes(16)])
+            fields = rnd.choice([request.fields, request.fields, rnd.randbytes(29)])
+            yield answered(request._replace(records=run, further=further, fields=fields), rnd.choice([any_room(rnd), size_of(request)]))
+        elif n > 122:
+            yield due(rnd, request, 28, board.at(2))
+        else:
+            yield due(rnd, request)
+
+
+def rule_40(rnd):
+    """Images of 65,536 and 65,537 bytes and about there, and of far more, by further bytes, by records and by both."""
+    totals = (65535, 65536, 65536, 65537, 65537, 65538, 65552)
+    variants = [("further", t) for t in totals] + [("records", n) for n in (2041, 2042, 2043, 3858)]
+    variants += [("both", d) for d in (-1, 0, 1, 2)] + [("most", 0)]
+    for part, v in cycle(rnd, variants):
+        room = rnd.choice([0, 65535, LONGEST, LONGEST, 65537, MOST])
+        if part == "further":
+            board = some_writable(rnd, [], rnd.choice([1, 2, 122]))
+            before = rnd.choice([[], [structure(b"$Fan", b"")]])
+            others = before + [filling(rnd, v - board.end() - 16 * len(before))]
+            yield answered(asked(some_writable(rnd, others, board.records())), room)
+        elif part == "most":
+            request = asked(some_writable(rnd, []))
+            yield answered(request._replace(further=some_bytes(rnd, MOST)), room)
+        else:
+            n = v if part == "records" else rnd.choice([1000, 2000, 2040])
+            others = [] if part == "records" else [filling(rnd, LONGEST + v - front(n))]
+            yield answered(asked(some_writable(rnd, others, n)), room, 28, front(n) - 0x60)
+
+
+def rule_45(rnd):
+    """A good $PromSig of each type, alone and behind others, with any VerMinor; and others that the reader refuses."""
+    types = [*HASHES, SIGNED + 1, SIGNED + 2, SIGNED + 3]
+    variants = [("good", t) for t in types] * 2 + [("longer", t) for t in types] + [("shorter", t) for t in types if t % SIGNED]
+    variants += [("type", t) for t in (6, 7, SIGNED, SIGNED + 4, SIGNED + 5, 0x4001, 0xFFFF)]
+    variants += [("major", v) for v in (0, 2, 257)] + [("Length", v) for v in (0x10, 0x11, 0x1F)] + [("not last", 0)] * 3
+    variants += [("reserved", p) for p in (0x12, 0x1F)] + [("behind", 0)] * 3
+    for part, v in cycle(rnd, variants):
+        before = some_others(rnd, 2, 0)
+        sig = some_promsig(rnd, v if part in ("good", "longer", "shorter") else None)
+        number, inner = 45, 0
+        if part in ("longer", "shorter"):
+            sig = sig[:0x20] + rnd.randbytes(HASHES[v % SIGNED] + (rnd.choice([1, 64]) if part == "longer" else -1))
+            sig[12:16] = le(len(sig), 4)
+            number, inner = (45, 0) if part == "longer" and v >= SIGNED else (29, 0x10)
+        elif part == "type":
+            sig = structure(PROMSIG, le(v, 2) + bytes(14) + rnd.randbytes(HASHES.get(v % SIGNED, 0x10)))
+            number, inner = 29, 0x10
+        elif part == "major":
+            sig[8:10], number = le(v, 2), 26
+        elif part == "Length":
+            sig, number = structure(PROMSIG, rnd.randbytes(v - 16)), 26
+        elif part == "reserved":
+            sig[10:12], sig[0x12:0x20] = bytes(2), bytes(14)
+            sig[v], number, inner = rnd.randint(1, 255), 32, v
+        after = [rnd.choice([some_unknown, some_promsig])(rnd)] if part == "not last" else []
+        board = some_writable(rnd, before + [sig] + after)
+        place = board.at(3 + len(before))
+        if part == "behind":  # bytes behind it: another structure is due
+            request = asked(board)
+            more = bytes(up(len(request.further)) - len(request.further)) + rnd.choice([bytes(1), bytes(16), b"$" * 5])
+            yield due(rnd, request._replace(further=request.further + more), 23, up(board.end()))
+        else:
+            yield due(rnd, asked(board), 25 if after else number, place + inner)
+
+
+def rule_23(rnd):
+    """Further bytes that are too short for a structure, all zeros, or end in padding."""
+    variants = [("few", n) for n in range(1, 16)] + [("zeros", n) for n in (1, 16, 32, 100)] + [("padding", n) for n in range(1, 18)]
+    for part, v in cycle(rnd, variants):
+        board = some_writable(rnd, [] if part == "zeros" else None)
+        request = asked(board)
+        if part == "padding":
+            more, place = bytes(v), up(board.end())
+        else:
+            more = bytes(v) if part == "zeros" else rnd.choice([bytes(structure(b"$Fan", b""))[:v], b"$" * v, b"\xff" * v])
+            more, place = bytes(up(board.end()) - board.end()) + more, up(board.end())
+        yield due(rnd, request._replace(further=request.further + more), 23, place)
+
+
+def rule_26_none(rnd):
+    """No records: 26 at the map, whatever else is wrong that has a greater number."""
+    while True:
+        request = asked(some_writable(rnd, some_others(rnd, 2, 0.2)))
+        fields = rnd.choice([request.fields, rnd.randbytes(29), bytes(29)])
+        names = rnd.choice([request.names, rnd.randbytes(61)])
+        yield due(rnd, request._replace(fields=fields, names=names, records=b""), 26, 0x30)
+
+
+def given_fields(rnd):
+    """Every byte of the parts of fixed length: each value of a byte that has no bound, both sides of the bound where there is one."""
+    variants = [("version", p, 256) for p in range(4)] + [("names", p, 256) for p in range(60)] + [("names", 60, 2)]
+    variants += [("fields", p, 256) for p in (20, 21, 26)] + [("fields", 27, 2), ("fields", 28, 4)] * 2
+    variants += [("fields", p, 0) for p in (*range(16, 20), *range(22, 26))]
+    for part, p, values in cycle(rnd, variants):
+        board = some_writable(rnd)
+        request = asked(board)
+        data = bytearray(getattr(request, part))
+        value = rnd.choice([0, 1, 2, 3, 4, 127, 128, 255, rnd.randrange(256)])
+        if values == 0:  # BlkLength or PartSize, which no longer fit each other
+            value = data[p] ^ 1 << rnd.randrange(8)
+            block = int.from_bytes(data[16:p] + bytes([value]) + data[p + 1:20], "little") if p < 20 else 1
+            number, place = 30, PART_SIZE if block else 0x50
+        else:
+            number = 0 if value < values else 31 if part == "names" else 30
+            place = board.at(2) + 0x4C if part == "names" else 0x40 + p
+        data[p] = value
+        yield due(rnd, request._replace(**{part: bytes(data)}), number, place)
+
+
+def broken_spots(board, rule):
+    """Where one change of what is given breaks a rule."""
+    return [spot for spot in spots(board, rule) if carried(rule, spot[0], board.records())]
+
+
+def several(rnd):
+    """Two or more refusals at once, in any order of place: the first of ORDER counts."""
+    variants = [pair for pair in itertools.combinations(ORDER, 2) if 40 not in pair] * 3 + [(40, other) for other in ORDER if other != 40]
+    variants += [ORDER, (41, *ORDER[3:]), ORDER[3:]] + [tuple(rnd.sample(ORDER[2:], 3)) for _ in range(60)]
+    for broken in cycle(rnd, variants):
+        records = rnd.choice([123, 124]) if 28 in broken else None
+        board = rich(rnd, records, any(rule in broken for rule in (26, 29, 45)))
+        again = rnd.choice([board_images.some_header, some_map, board_images.some_board, some_promsig])(rnd)
+        if 25 in broken:
+            board.parts.insert(rnd.randint(3, board.last()), again)
+        if 40 in broken:
+            board.parts.insert(rnd.randint(3, board.last()), filling(rnd, up(LONGEST - board.end()) + 16))
+        board.fit()
+        as_written(board)
+        where, changes = {46: 0, 40: 0, 41: 0}, []
+        for rule in set(broken) - set(where):
+            if rule == 23:
+                where[rule] = board.at(rnd.randint(3, board.last()))
+                changes.append(rnd.choice([(where[rule], b"E"), (where[rule] + 12, le(15, 4)), (where[rule] + 12, le(LONGEST, 4))]))
+            elif rule in (25, 28, 45):
+                k = {28: 2, 45: board.last()}.get(rule) or [part is again for part in board.parts].index(True)
+                where[rule] = board.at(k)
+            else:
+                where[rule], *change = rnd.choice(broken_spots(board, rule))
+                changes.append(change)
+        request = asked(board, *changes)
+        if 46 in broken:
+            request = request._replace(records=rnd.choice([request.records[:-1], request.records + b"\x50", request.records[:16]]))
+        total = size_of(request)
+        room = rnd.choice([0, total - 1, rnd.randrange(total)]) if 41 in broken else enough(rnd, total)
+        low = min(broken, key=ORDER.index)
+        yield min(room, MOST), request, refused(min(room, MOST), low, where[low])
+
+
+def record_truncations(rnd):
+    """Every truncation of a run of records: where a record ends PartSize no longer fits, or there is no record left."""
+    while True:
+        request = asked(some_writable(rnd, records=rnd.randint(1, 3)))
+        for n in cut_points(rnd, len(request.records)):
+            number, place = (0, 0) if n == len(request.records) else (30, PART_SIZE) if n else (26, 0x30)
+            yield due(rnd, request._replace(records=request.records[:n]), number, place)
+
+
+def further_truncations(rnd):
+    """Every truncation of some further bytes: good where a structure ends, else none where one is due."""
+    while True:
+        board = some_writable(rnd, some_others(rnd, 3, 0.3))
+        request, start = asked(board), board.at(2) + 0x60
+        ends = [board.at(k) + len(part) for k, part in enumerate(board.parts)]
+        signed = bytes(board.parts[-1][:8]) == PROMSIG
+        for n in cut_points(rnd, len(request.further)) + [end - start for end in ends[2:]]:
+            k = sum(end <= start + n for end in ends)
+            if start + n not in ends:
+                number, place = 23, board.at(k)
+            else:
+                number, place = (45, board.at(board.last())) if signed and k == len(ends) else (0, 0)
+            yield due(rnd, request._replace(further=request.further[:n]), number, place)
+
+
+def mutated(rnd):
+    """A good request with a byte changed, or in the parts of any length taken out or put in."""
+    while True:
+        request = asked(some_writable(rnd, some_others(rnd)))
+        part = rnd.choice(Request._fields + ("further",) * 3)
+        data = bytearray(getattr(request, part))
+        k = rnd.randrange(len(data) or 1)
+        byte = bytes([rnd.choice([rnd.randrange(256), rnd.choice(b"\0\1\2\x10\x20$")])])
+        longer = part in ("records", "further") and rnd.random() < 0.3
+        data[k:k + (not longer or rnd.random() < 0.5)] = byte[:len(data) and not longer or rnd.randint(0, 1)]
+        yield due(rnd, request._replace(**{part: bytes(data)}), None)
+
+
+def random_parts(rnd):
+    """Random bytes in each part, or in some."""
+    while True:
+        request = asked(some_writable(rnd))
+        records = b"".join(some_label(rnd) + rnd.randbytes(1) for _ in range(rnd.randint(0, 4))) + rnd.randbytes(rnd.choice([0, 0, 3]))
+        other = Request(rnd.randbytes(4), some_label(rnd) + rnd.randbytes(13), records, rnd.randbytes(60) + bytes([rnd.choice([0, 1, 2])]),
+                        bytes(rnd.choice(b"$\0\0\0\x10\x20") for _ in range(rnd.choice([0, 16, 17, 40]))))
+        often = rnd.choice([0.3, 0.6, 1])
+        request = Request(*(b if rnd.random() < often else a for a, b in zip(request, other)))
+        yield answered(request, rnd.choice([any_room(rnd)] + [size_of(request)] * 3), None)
+
+
+def paper_cases(_):
+    """Cases 12 and 13 of the build paper, and what is beside them."""
+    case = asked(plain())
+    sig = structure(PROMSIG, le(3, 2) + bytes(14) + bytes(range(32)))
+    while True:
+        yield 0xE0, case, written(0xE0, plain().image())
+        yield 0xE2, case, written(0xE2, plain().image())
+        yield 0xDF, case, refused(0xDF, 41, 0)
+        yield 0, case, refused(0, 41, 0)
+        yield 4096, asked(plain(122)), written(4096, plain(122).image())
+        yield 4128, asked(plain(123)), refused(4128, 28, 0xFC0)
+        yield 0x120, asked(plain(1, [sig])), refused(0x120, 45, 0xE0)
+
+
+# a group, how many requests it gives in a turn, and in which turns (every so many)
+GROUPS = [(good_records, 5, 1), (good_further, 8, 1), (rooms, 6, 1), (rule_46, 6, 1), (rule_40, 1, 1), (rule_45, 7, 1), (rule_23, 4, 1),
+          (rule_26_none, 1, 1), (given_fields, 7, 1), (several, 9, 1), (record_truncations, 4, 1), (further_truncations, 8, 1),
+          (made_of(board_images.good_mixed), 4, 1), (made_of(board_images.good_each_kind), 3, 1),
+          (made_of(board_images.good_lengths), 2, 1), (made_of(board_images.good_unknown), 2, 1),
+          (made_of(board_images.good_near), 2, 1), (made_of(board_images.good_many), 1, 2),
+          (made_of(board_images.good_names), 2, 1), (made_of(board_images.rule_21, True), 1, 1), (made_of(board_images.rule_23), 5, 1),
+          (made_of(board_images.rule_24), 4, 1), (made_of(board_images.rule_25), 3, 1), (made_of(board_images.rule_26, True), 2, 1),
+          (made_of(board_images.rule_27, True), 2, 1), (made_of(board_images.rule_28), 1, 2), (made_of(board_images.rule_29), 4, 1),
+          (made_of(board_images.rule_30_labels), 5, 1), (made_of(board_images.rule_30_fields, True), 5, 1),
+          (made_of(board_images.rule_31), 1, 1), (made_of(board_images.rule_32, True), 6, 1), (made_of(board_images.cut_fields), 3, 1),
+          (made_of(board_images.rule_33_fields), 3, 1), (made_of(board_images.rule_33_labels), 3, 1),
+          (made_of(board_images.rule_33_cut), 2, 1), (made_of(board_images.two_places), 3, 1), (made_of(board_images.two_structures), 1, 1),
+          (made_of(board_images.two_rules), 2, 1), (made_of(board_images.mutated), 2, 1), (made_of(board_images.mutated_heads), 1, 1),
+          (made_of(board_images.random_behind_header), 2, 1), (made_of(board_images.random_structures), 3, 1),
+          (made_of(board_images.large), 1, 6), (mutated, 5, 1), (random_parts, 4, 1)]
+
+
+def in_turn(seed, groups):
+    """What the groups yield, for ever."""
+    running = [(g(random.Random("%s %s" % (seed, g.__name__))), n, every) for g, n, every in groups]
+    for turn in itertools.count():
+        for group, n, every in running:
+            if turn % every == 0:
+                yield from itertools.islice(group, n)
+
+
+def requests(seed):
+    """All requests, for ever: (room, request, the answer or None)."""
+    for room, request, answer in itertools.chain(itertools.islice(paper_cases(None), 7), in_turn(seed, GROUPS)):
+        assert (len(request.version), len(request.fields), len(request.names)) == (4, 29, 61)
+        assert max(room, len(request.records), len(request.further)) <= MOST
+        yield room, request, answer
+
+
+# ---- lines ----
+
+def line(rnd, room, request):
+    """Long parts have no blanks, so that the line is not too long."""
+    parts = (in_hex(rnd, part) if len(part) < 8000 else part.hex() for part in request)
+    return ("%s%s%s;%s" % (blanks(rnd), rnd.choice(["%d"] * 9 + ["%07d"]) % room, blanks(rnd), ";".join(parts))).encode()
+
+
+def case_parts(k=None, part=b""):
+    """The six parts of a line for case 13, part k replaced."""
+    out = [b"224"] + [part.hex(" ").upper().encode() for part in asked(plain())]
+    return out if k is None else out[:k] + [part] + out[k + 1:]
+
+
+def other_lines():
+    """Lines that are no requests."""
+    case, bad = case_parts(), []
+    for k in (1, 2, 4):  # a byte short, a byte more, none, half a byte
+        bad += [(k, part) for part in (case[k][:-3], case[k] + b" 00", b"", case[k][:-1], case[k] + b" 0")]
+    bad += [(0, room) for room in (b"", b"-1", b"+224", b"x", b"224x", b"0xE0", b"2 24", b"22.4", b"65601", b"655360", b"4294967520",
+                                   b"18446744073709551840", b"9" * 40, b"\xb2", b"\t224")]
+    digits = (b"0", b"00 0", b"0 0", b"000", b"G0", b"0g", b"0x00", b"00,00", b"00:00", b"00h", b"/0", b"0:", b"@0", b"0`", b"\x00",
+              b"\xff\xff", b"00\t00", b"00\r", b"-1", b" " * 100 + b"0", b"00" * (MOST + 1))
+    bad += [(k, part) for k in (3, 5) for part in digits]
+    out = [b"; ".join(case_parts(*change)) for change in bad]
+    out += [b";".join(case[:k]) for k in range(1, 6)] + [b";".join(case) + b";", b";".join(case) + b"; ", b";".join(case + [b"00"])]
+    return out + [b"; ".join(case).replace(b";", b":"), b" ".join(case), b",".join(case), b" ", b"    ", b";", b";;;;;", b" ; ; ; ; ; ",
+                  b"0;;;;;", b"not a request", b"\0", b"\r", b"\t", b"12; 10 01 00; 74 6F 70 B1"]
+
+
+OTHER_LINES = other_lines()
+
+
+# ---- the choice ----
+
+VERSION = slice(0x1C, 0x20)
+COUNTED = [*range(0x10, 0x30), *range(0x40, 0x4D)]  # the bytes of $BrdInfo that count
+VERSIONS = [(3, 4), (4, 4), (4, 3), (0, 1), (0, 0), (1, 0), (255, 256), (256, 255), (0x00FFFFFF, 0x01000000), (0x01000000, 0x00FFFFFF),
+            (0x7FFFFFFF, 0x80000000), (0x80000000, 0x7FFFFFFF), (0x80000000, 0), (0, 0x80000000), (0xFFFFFFFF, 0), (0, 0xFFFFFFFF),
+            (0xFFFFFFFF, 0xFFFFFFFF), (0x80000000, 0x80000000), (0xFFFFFFFE, 0xFFFFFFFF), (1, 0xFFFFFFFF), (0xFFFFFFFF, 1)]
+
+
+def choice_text(mask, firmware, eeprom, said):
+    """All that must be answered to a pair, given the line that says which image is chosen."""
+    word, number = said.split()[:2]
+    chosen = {"firmware": firmware, "eeprom": eeprom, "neither": b""}[word]
+    part = chosen[:int(number)] if chosen else b""
+    return "list %d\n%s\npart%s\n" % (mask, said, "".join(" %02X" % byte for byte in part))
+
+
+def some_list(rnd):
+    """A list: bits above the seventeenth count for nothing."""
+    return rnd.choice([FULL] * 4 + [0, FULL - (1 << rnd.randint(8, 16)), rnd.getrandbits(17), rnd.getrandbits(17), rnd.getrandbits(32)])
+
+
+def twins(rnd, versions=None, **over):
+    """Two good boards of which all that counts is alike, and of the rest nothing need be."""
+    pair = [some(rnd, **over) for _ in range(2)]
+    for board, version in zip(pair, versions or (some_number(rnd, 4), some_number(rnd, 4))):
+        board.parts[0][VERSION] = le(version, 4)
+    for p in COUNTED:
+        pair[1].parts[2][p] = pair[0].parts[2][p]
+    return pair
+
+
+def chosen_of(rnd, pair, eeprom, mask=None):
+    """A pair of accepted boards, lent with or without bytes behind them."""
+    said = "%s %d" % ("eeprom" if eeprom else "firmware", pair[eeprom].end())
+    return (some_list(rnd) if mask is None else mask), lend(rnd, pair[0].image()), lend(rnd, pair[1].image()), said
+
+
+def by_version(board):
+    return int.from_bytes(board.parts[0][VERSION], "little")
+
+
+def choice_versions(rnd):
+    """The same board: the greater Version, or firmware."""
+    for a, b in cycle(rnd, VERSIONS + [(None, None)] * 10):
+        pair = twins(rnd, (a, b) if a is not None else None)
+        yield chosen_of(rnd, pair, by_version(pair[1]) > by_version(pair[0]))
+
+
+def choice_copies(rnd):
+    """An image and its copy with another Version, another serial, another map or other structures behind; or with no change at all."""
+    for part in cycle(rnd, ["nothing", "Version", "BrdSerial", "map", "further", "none further", "reserved"]):
+        board = some(rnd)
+        copy = Board([bytearray(p) for p in board.parts])
+        block = int.from_bytes(board.parts[1][0x20:0x24], "little")
+        if part == "BrdSerial":
+            copy.parts[2][0x30:0x40] = some_name(rnd)
+        elif part == "map":
+            copy.parts[1] = some_map(rnd)
+        elif part == "further":
+            copy.parts[3:] = some_others(rnd)
+        elif part == "none further":
+            copy.parts[3:] = []
+        elif part == "reserved":
+            copy.parts[2] = structure(BOARD, copy.parts[2][0x10:0x4D] + rnd.randbytes(19), minor=1)
+        copy.fit(block if part in ("nothing", "Version", "BrdSerial", "reserved") else None)
+        if part != "nothing":
+            copy.parts[0][VERSION] = le(some_number(rnd, 4), 4)
+        pair = rnd.sample([board, copy], 2)
+        yield chosen_of(rnd, pair, by_version(pair[1]) > by_version(pair[0]))
+
+
+def choice_fields(rnd):
+    """One byte of the board differs, by one bit or by more: where it counts it is firmware, whatever the Versions."""
+    variants = [(p, how) for p in range(0x10, 0x4D) for how in ("bit", "any")] + [(0x4C, "bit")] * 4
+    for p, how in cycle(rnd, variants):
+        pair = twins(rnd, rnd.choice([(3, 4), (0, 0x80000000), (0, 0xFFFFFFFF), rnd.choice(VERSIONS)]), records=rnd.choice([None, 1]))
+        for q in range(0x30, 0x40):
+            pair[1].parts[2][q] = pair[0].parts[2][q]
+        byte = pair[0].parts[2][p]
+        pair[1].parts[2][p] = byte ^ 1 if p == 0x4C else byte ^ (1 << rnd.randrange(8) if how == "bit" else rnd.randint(1, 255))
+        yield chosen_of(rnd, pair, p not in COUNTED and by_version(pair[1]) > by_version(pair[0]))
+
+
+def choice_places(rnd):
+    """Boards at different places: one to 122 records on either side; alike, or with a byte that differs."""
+    counts = ((1, 2), (2, 1), (1, 12), (9, 3), (122, 1), (1, 122))
+    for (n, m), alike in cycle(rnd, [(pair, a) for pair in counts for a in (True, True, False)]):
+        pair = twins(rnd, rnd.choice(VERSIONS))
+        for board, records in zip(pair, (n, m)):
+            board.parts[1] = some_map(rnd, records)
+            board.fit()
+        if not alike:
+            pair[1].parts[2][rnd.choice(COUNTED[:-1])] ^= 1 << rnd.randrange(8)
+        yield chosen_of(rnd, pair, alike and by_version(pair[1]) > by_version(pair[0]))
+
+
+def images_with(rnd, word):
+    """The images of board_images that are accepted, or refused whatever the list."""
+    for _, image, said in board_images.images(rnd.random()):
+        if said.startswith(word) and (word == "accepted" or int(said.split()[1]) < 32) and (len(image) < 6000 or rnd.random() < 0.1):
+            yield image, said
+
+
+def choice_one(rnd):
+    """One is refused, for any reason: the other, whatever it is."""
+    good, bad = images_with(rnd, "accepted"), images_with(rnd, "refused")
+    for eeprom in cycle(rnd, [False, True]):
+        image = next(good)[0]
+        said = "%s %d" % ("eeprom" if eeprom else "firmware", int.from_bytes(image[0x10:0x14], "little"))
+        pair = (next(bad)[0], image) if eeprom else (image, next(bad)[0])
+        yield (some_list(rnd), *pair, said)
+
+
+def choice_neither(rnd):
+    """Both are refused: firmware's number and place."""
+    bad = images_with(rnd, "refused")
+    while True:
+        (firmware, said), (eeprom, _) = next(bad), next(bad)
+        yield some_list(rnd), firmware, eeprom, said.replace("refused", "neither")
+
+
+def faulty(rnd, board):
+    """A board with one more structure, which a reader refuses if it is on its list: the board, its bit, and the refusal."""
+    kind = rnd.choice(LISTED)
+    part, number, inner = some_known(rnd, kind, 1 if kind == GPIO else None, 0), 32, RESERVED[kind][0]
+    style = rnd.random()
+    if style < 0.3:
+        part, number, inner = structure(kind, bytes(rnd.randrange(RESERVED[kind][1] - 16))), 33, 0
+    elif kind == FPGA and style < 0.8:
+        part[0x10], number, inner = 5, 33, 0x10
+    elif kind == GPIO and style < 0.8:
+        part[0x40], number, inner = 3, 33, 0x40
+    else:
+        part[inner] = 1
+    k = rnd.randint(3, len(board.parts)) if bytes(board.parts[-1][:8]) != PROMSIG else rnd.randint(3, board.last())
+    board.parts.insert(k, part)
+    board.fit()
+    return 1 << 8 + LISTED.index(kind), number, board.at(k) + inner
+
+
+def choice_lists(rnd):
+    """Images that only a shorter list accepts: one of the two or both, each with a fault in a structure that may be on the list or not."""
+    for which in cycle(rnd, [(True, False), (False, True), (True, True)]):
+        pair = twins(rnd, rnd.choice(VERSIONS + [(3, 4)] * 20))
+        faults = [faulty(rnd, board) if bad else (0, 0, 0) for board, bad in zip(pair, which)]
+        bits = [bit for bit, *_ in faults if bit]
+        mask = rnd.choice([FULL, FULL - bits[0], FULL - bits[-1], rnd.choice(bits), FULL & ~(bits[0] | bits[-1]), rnd.getrandbits(17)])
+        refusals = [bool(bit & mask) for bit, *_ in faults]
+        if all(refusals):
+            said = "neither %d %d" % faults[0][1:]
+            yield mask, lend(rnd, pair[0].image()), lend(rnd, pair[1].image()), said
+        elif any(refusals):
+            yield chosen_of(rnd, pair, refusals[0], mask)
+        else:
+            yield chosen_of(rnd, pair, by_version(pair[1]) > by_version(pair[0]), mask)
+
+
+def choice_signed(rnd):
+    """With a $PromSig on one side, on both, on none: it makes no difference."""
+    for signed in cycle(rnd, [(False, True), (True, False), (True, True)]):
+        pair = twins(rnd, rnd.choice(VERSIONS), others=[])
+        for board, sig in zip(pair, signed):
+            board.parts += some_others(rnd, 2, 0) + ([some_promsig(rnd)] if sig else [])
+            board.fit()
+        yield chosen_of(rnd, pair, by_version(pair[1]) > by_version(pair[0]))
+
+
+def choice_lent(rnd):
+    """Nothing lent, truncations, and images of which 65,536 bytes are lent and one more."""
+    variants = [("empty", k) for k in (0, 1, 2)] * 4 + [("cut", k) for k in (0, 1, 2)] * 8 + [("65536", 0), ("65537", 0), ("65537", 1)]
+    for part, k in cycle(rnd, variants):
+        pair = twins(rnd, (3, 4))
+        images = [board.image() for board in pair]
+        refusals = [part != "65536" and k in (side, 2) for side in (0, 1)]
+        said = None
+        for side in (0, 1):
+            if refusals[side]:
+                n = {"empty": 0, "cut": rnd.randrange(len(images[side]))}.get(part, 65537)
+                images[side] = images[side][:n].ljust(n, b"\0")
+                said = said or "neither %d %d" % ((22, 0x10) if part == "cut" and n >= 0x30 else (20, 0))
+            elif part == "65536":
+                images[side] = images[side].ljust(LONGEST, b"\xff")
+        if not all(refusals):
+            eeprom = not refusals[1]
+            said = "%s %d" % ("eeprom" if eeprom else "firmware", pair[eeprom].end())
+        yield some_list(rnd), *images, said
+
+
+def counted(image):
+    """What counts in an accepted image: the bytes of its board, and its Version."""
+    at = front(records_of(image)) - 0x60
+    return [image[at + p] for p in COUNTED], int.from_bytes(image[VERSION], "little")
+
+
+def said_of_two(firmware, a, eeprom, b):
+    """What is due, given what the judge says of each image with the full list; None where it did not say, or asked the list."""
+    if any(said == "?" or said.startswith("refused") and int(said.split()[1]) >= 32 for said in (a, b)):
+        return None
+    if a.startswith("refused") and b.startswith("refused"):
+        return a.replace("refused", "neither")
+    second = a.startswith("refused")
+    if a.startswith("accepted") and b.startswith("accepted"):
+        (one, version), (other, later) = counted(firmware), counted(eeprom)
+        second = one == other and later > version
+    return "%s %d" % ("eeprom" if second else "firmware", int.from_bytes((eeprom if second else firmware)[0x10:0x14], "little"))
+
+
+def choice_any(rnd):
+    """Any two images, with any list."""
+    made = ((image, said) for _, image, said in board_images.images(rnd.random()) if len(image) < 6000)
+    while True:
+        (firmware, a), (eeprom, b) = next(made), next(made)
+        yield some_list(rnd), firmware, eeprom, said_of_two(firmware, a, eeprom, b)
+
+
+def choice_mutated(rnd):
+    """The same board, with a byte changed somewhere in one of the images."""
+    while True:
+        pair = twins(rnd, rnd.choice(VERSIONS))
+        images = [board.image() for board in pair]
+        side = rnd.randrange(2)
+        place = rnd.randrange(pair[side].end())
+        images[side] = pair[side].image((place, bytes([images[side][place] ^ 1 << rnd.randrange(8)])))
+        yield some_list(rnd), *images, None
+
+
+def paper_pairs(_):
+    """Case 11 of the build paper."""
+    three, four, serial = plain(version=3), plain(version=4), plain(version=4, names=(b"Gwejlusa", b"rig", b"0002"))
+    other = plain(version=4)
+    other.parts[2][0x48] ^= 1
+    while True:
+        yield FULL, three.image(), four.image(), "eeprom 224"
+        yield FULL, four.image(), four.image(), "firmware 224"
+        yield FULL, three.image(), serial.image(), "eeprom 224"
+        yield FULL, three.image(), other.image(), "firmware 224"
+
+
+# as GROUPS
+PAIRS = [(choice_versions, 8, 1), (choice_copies, 6, 1), (choice_fields, 14, 1), (choice_places, 3, 1), (choice_one, 8, 1),
+         (choice_neither, 5, 1), (choice_lists, 9, 1), (choice_signed, 2, 1), (choice_lent, 2, 1), (choice_any, 6, 1),
+         (choice_mutated, 5, 1)]
+
+
+def pairs(seed):
+    """All pairs, for ever: (list, firmware, EEPROM, the line that says which is chosen, or None)."""
+    yield from itertools.islice(paper_pairs(None), 4)
+    yield from in_turn(seed, PAIRS)
+
+
+def record(mask, firmware, eeprom):
+    """A record of a run for `board choice`."""
+    return le(mask, 4) + le(len(firmware), 4) + firmware + le(len(eeprom), 4) + eeprom
+
+
+# ---- what the gate runs: fixed contents ----
+
+def case_with(part, p, byte):
+    """Case 13 with a byte of a part replaced."""
+    case = asked(plain())
+    data = bytearray(getattr(case, part))
+    data[p] = byte
+    return case._replace(**{part: bytes(data)})
+
+
+def gate_requests():
+    """Cases 12 and 13, what is beside them, each refusal but 40 (its line would be too long), several at once."""
+    case, fan, bare = asked(plain()), structure(b"$Fan", b"\1\2\3"), structure(b"$Fan", b"")
+    fpga = structure(FPGA, b"\x03\x01\x02" + bytes(13) + b"x")
+    gpio = structure(GPIO, bytes(16) + board_images.gpio_record(labelled(b"lamp"), 0x1C0, 0xFFFFFFFE, 1, 4, 1))
+    sig = structure(PROMSIG, le(3, 2) + bytes(14) + bytes(range(32)))
+    signed = structure(PROMSIG, le(SIGNED + 1, 2) + bytes(14) + bytes(24))
+    kinds = plain(2, [fpga, gpio, fan, structure(LOGO, b"\xff" * 5, 2)])
+    out = [(room, case) for room in (0xE0, 0xE2, 0xDF, 0)] + [(4096, asked(plain(122))), (4128, asked(plain(123)))]
+    out += [(kinds.end() + d, asked(kinds)) for d in (0, 1, -1)]
+    out += [(256, case._replace(records=run)) for run in (b"", case.records[:16], case.records + b"\0", case.records * 2, bytes(17))]
+    out += [(256, case._replace(further=more)) for more in (bytes(16), bytes(1), bytes(bare) + bytes(16), bytes(bare)[:15])]
+    out.append((300, case._replace(further=bytes(fan) + b"\1" + bytes(12) + bytes(bare))))
+    out += [(320, asked(plain(1, others))) for others in (
+        [sig], [fan, signed], [structure(PROMSIG, bytes(16))], [sig, bare], [structure(BOARD, bytes(0x50), 2)],
+        [structure(PROMSIG, bytes(16), 2)], [structure(PROMSIG, le(SIGNED + 4, 2) + bytes(14))],
+        [structure(LOGO, bytes(15) + b"\1")], [structure(FPGA, b"\5" + bytes(15))], [structure(LOGO, b"\1" * 8), sig])]
+    out += [(224, case_with(*change)) for change in (
+        ("version", 3, 0x80), ("fields", 3, 0), ("fields", 17, 0), ("fields", 22, 1), ("fields", 27, 2), ("fields", 28, 4),
+        ("records", 5, 0x20), ("records", 16, 0x80), ("names", 16, 0xFF), ("names", 60, 1), ("names", 60, 2))]
+    wrong = case_with("names", 60, 2)._replace(further=bytes(16))
+    return out + [(0, wrong._replace(records=bytes(16))), (0, wrong), (256, wrong)]
+
+
+def gate_lines():
+    """These, one in lower case and without blanks, one with many; an empty line; lines that are no requests; the last lacks its newline."""
+    out = []
+    for room, request in gate_requests():
+        short = len(request.records) < 1000
+        out.append(b"; ".join([b"%d" % room] + [part.hex(*" " * short).upper().encode() for part in request]))
+    case = case_parts()
+    out += [b";".join(part.replace(b" ", b"").lower() for part in case), b" 0224  ;  " + b"  ;  ".join(case[1:]) + b"  ", b""]
+    changes = [(0, b""), (0, b"65601"), (0, b"x"), (1, case[1][:-3]), (1, case[1] + b" 00"), (2, case[2][:-3]), (2, case[2] + b" 00"),
+               (4, case[4][:-3]), (4, case[4] + b" 00"), (3, case[3] + b" 0"), (5, b"0x00"), (5, b"24\t24")]
+    out += [b"; ".join(case_parts(*change)) for change in changes]
+    return b"\n".join(out + [b"; ".join(case[:5]), b"; ".join(case) + b";", b" ", b"not a request", b"; ".join(case)])
+
+
+def gate_pairs():
+    """Case 11 and what is beside it; one or both refused; lists with which one is refused; lent past StructLen; a record that is cut."""
+    def versioned(version, *others, records=1):
+        return plain(records, others, version=version).image()
+
+    def changed(p, bits):  # a byte of the board
+        board = plain(version=4)
+        board.parts[2][p] ^= bits
+        return board.image()
+    three, four, sig = versioned(3), versioned(4), structure(PROMSIG, le(1, 2) + bytes(14) + bytes(16))
+    fpga, logo = versioned(9, structure(FPGA, b"\5" + bytes(15))), versioned(8, structure(LOGO, b"\1" * 16))
+    fpga_bit, logo_bit = (1 << 8 + LISTED.index(kind) for kind in (FPGA, LOGO))
+    out = [(mask, a, b) for mask, a, b, _ in itertools.islice(paper_pairs(None), 4)] + [(FULL, four, three)]
+    differ = ((0x10, 0x20), (0x2F, 0x01), (0x40, 0x01), (0x47, 0x80), (0x4B, 0x01), (0x4C, 0x01), (0x3F, 0x01))  # the last is BrdSerial
+    out += [(0, three, changed(*change)) for change in differ]
+    out += [(FULL, versioned(a), versioned(b)) for a, b in ((0x7FFFFFFF, 0x80000000), (0x80000000, 1), (255, 256))]
+    out += [(FULL, three + b"\xff" * 9, versioned(4, sig, records=2) + b"$"), (FULL, versioned(5, sig) + bytes(40), four)]
+    out += [(FULL, three[:-1], four), (FULL, four, b""), (FULL, four[:0x2F], three[:-1]), (FULL, changed(0x4C, 2), four + b"\0")]
+    for mask in (FULL, FULL - fpga_bit, FULL - fpga_bit - logo_bit):
+        out += [(mask, fpga, logo), (mask, logo, fpga), (mask, four, fpga)]
+    return b"".join(record(*pair) for pair in out) + record(FULL, four, three)[:-1]
+
+
+def main():
+    command = sys.argv[1] if len(sys.argv) == 2 else ""
+    if command not in ("requests", "pairs"):
+        sys.exit("usage: board_runs.py requests | pairs")
+    sys.stdout.buffer.write(gate_lines() if command == "requests" else gate_pairs())
+
+
+if __name__ == "__main__":
+    main()
