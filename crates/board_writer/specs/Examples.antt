@@ -1,10 +1,10 @@
--- What the writer makes of small parts, by computation: case 13's layout written, read back and written again, with further bytes, and each refusal of its own.
--- Assumes nothing.
+-- What the writer answers, by computation: each refusal of its own and of the reader's, and what is written, with the whole buffer after the call; and case 13
+-- written, read back and accepted. Assumes nothing.
 use Prim.Native.Nat.{ℕ}
 use mathlib.Core.List.{List, [], _∷_, _++_, map, flatten}
 use mathlib.Core.Path.{_≡_, refl}
-use lib.ListN.{length, drop, replicate}
-use Rattle.board.specs.Items.{restAt, eepromAt, eeprMapAt, brdInfoAt}
+use lib.ListN.{length, drop}
+use Rattle.board.specs.Items.{eepromAt, eeprMapAt, brdInfoAt}
 use Rattle.board.specs.Records.{mapRecordAt}
 use Rattle.board_fields.specs.Hash.{badHash, badHashOf, hashSize}
 use Rattle.board_fields.specs.Heads.{badMapHead, badBoardHead, badPromSigHead}
@@ -17,6 +17,7 @@ use Rattle.board_records.specs.Records.{badMapRecord}
 use Rattle.board_rules.specs.Examples as example
 use Rattle.board_rules.specs.Judged.{judged}
 use Rattle.board_rules.specs.Rules.{rule20, rule21, rule22, rule23, rule24, rule25, rule26, rule27, rule28, rule29, rule30, rule31, rule32, rule33, misplaced, gapUsed, expected, outOfOrder, promSigAt, covered, checkOver}
+use Rattle.board_writer.specs.ExampleParts.{blank, mapWith, map13, boardWith, top, given, record13, parts13, image13, parts2, image2, imageLogo, imageSigned}
 use Rattle.board_writer.specs.Image.{zeros, laidRecord, laidRecords, body, laid, crcLength, check, image}
 use Rattle.board_writer.specs.Parts.{Parts, parts}
 use Rattle.board_writer.specs.PartsOf.{recordsOf, partsOf}
@@ -28,64 +29,100 @@ use Rattle.crc.specs.Crc32.{crc32, shift, shifts, step32}
 use Rattle.kinds.specs.Kinds.{all, full}
 use Rattle.octets.specs.Bytes.{spelled, le16, le32, le64}
 use Rattle.octets.specs.Label.{isText, isLabelText, textEnd, badLabel}
-use Rattle.octets.specs.Runs.{sixteen, sixteenAt, nonzero}
+use Rattle.octets.specs.Runs.{sixteenAt, nonzero}
 use Rattle.verdict.specs.Said.{Said, says, refused, writeSaid}
 use Rattle.verdict.specs.declared.Judged.the-variants.{Accepted}
 use Rattle.verdict.specs.declared.WriteAnswer.{WriteAnswer}
 
--- a buffer of n bytes AAh
-abbrev pub blank : ℕ → List ℕ
-blank n = replicate n 0xAA
+-- ---- tables of calls
+-- what is to be written, and the length of the lent buffer; what is said, and the bytes at the buffer's front that then differ
+record Call : Type 0 where
+  takes : Parts
+  room : ℕ
+  told : Said ℕ
+  front : List ℕ
 
--- case 13: what the image of board_rules' examples is made of; the records and the further bytes vary
-abbrev given : List ℕ → List ℕ → Parts
-given records further =
-    record {
-      version = 4;
-      map =
-          record {
-            partlabel = sixteen (0x72 ∷ 0x69 ∷ 0x67 ∷ 0x24 ∷ zeros 12);
-            blklength = 4096;
-            pagesize = 32;
-            partsize = 4096;
-            busnumber = 0;
-            master = 1;
-            speed = 2;
-          };
-      records = records;
-      board =
-          record {
-            manuname = sixteen (0x47 ∷ 0x77 ∷ 0x65 ∷ 0x6A ∷ 0x6C ∷ 0x75 ∷ 0x73 ∷ 0x61 ∷ zeros 8);
-            brdname = sixteen (0x72 ∷ 0x69 ∷ 0x67 ∷ zeros 13);
-            brdserial = sixteen (0x30 ∷ 0x30 ∷ 0x30 ∷ 0x31 ∷ zeros 12);
-            boardid = 1;
-            fabid = 2;
-            ecid = 3;
-            boardtype = 0;
-          };
-      further = further;
-    }
+abbrev call : Parts → ℕ → Said ℕ → List ℕ → Call
+call takes room told front = record { takes = takes; room = room; told = told; front = front }
 
--- one record, "top1" at address 50h
-abbrev record13 : List ℕ
-record13 = 0x74 ∷ 0x6F ∷ 0x70 ∷ 0x31 ∷ 0x24 ∷ zeros 11 ++ (0x50 ∷ [])
+-- what the writer says of it, and the buffer after it
+abbrev seen : WriteAnswer × List ℕ → Said ℕ × List ℕ
+seen w = (writeSaid (w .0), w .1)
 
-abbrev pub parts13 : Parts
-parts13 = given record13 []
+abbrev outcome : Call → Said ℕ × List ℕ
+outcome c = seen (written (c .takes) (blank (c .room)))
 
-abbrev pub image13 : List ℕ
-image13 = example.image 0xE0 0x9714_49AD 0xE0 []
+abbrev foretold : Call → Said ℕ × List ℕ
+foretold c = (c .told, c .front ++ drop (length (c .front)) (blank (c .room)))
 
-made : image parts13 ≡ image13
-unfolding image laid body laidRecords laidRecord crcLength check spelled sixteenAt tab flatten covered checkOver promSigAt first chain visit next round16 le32 le64 crc32 shift shifts step32
-made = refl
+-- what comes before the reader
+abbrev early : List Call
+early =
+    -- 46: sixteen and eighteen bytes of records; before 40 and before 41
+    call (given (zeros 16) []) 0xE0 (refused 46 0) []
+    ∷ call (given (zeros 18) []) 0 (refused 46 0) []
+    ∷ call (given (zeros 16) (zeros 65536)) 0 (refused 46 0) []
+    -- 40 at 65,537 bytes, before 41, and not at 65,536
+    ∷ call (given record13 (zeros 65313)) 0 (refused 40 0) []
+    ∷ call (given record13 (zeros 65312)) 0 (refused 41 0) []
+    -- 41: a byte too short; said before what the reader says
+    ∷ call parts13 0xDF (refused 41 0) []
+    ∷ call (given [] []) 0 (refused 41 0) []
+    ∷ []
 
--- ---- case 13: what laws/Written claims of every image, here by computation alone
+early-hold : map outcome early ≡ map foretold early
+unfolding written checked
+early-hold = refl
+
+-- what is written, and what the reader or 45 says of the records and the further bytes, at places in the image
+abbrev calls : List Call
+calls =
+    -- case 13, into a buffer of its length; `written13` below is into one with two bytes more, which stay as they were
+    call parts13 0xE0 (says 0xE0) image13
+    -- two records
+    ∷ call parts2 0x100 (says 0x100) image2
+    -- no record: 26 at the map
+    ∷ call (given [] []) 0xE0 (refused 26 0x30) []
+    -- further bytes: zeros are 23; a `$Logo$` is written, and with a reserved byte set it is 32
+    ∷ call (given record13 (zeros 16)) 0xF0 (refused 23 0xE0) []
+    ∷ call (given record13 (example.logo 0x20 0)) 0x100 (says 0x100) imageLogo
+    ∷ call (given record13 (example.logo 0x20 1)) 0x100 (refused 32 0xF0) []
+    -- a good `$PromSig` is 45; one of another hash size is 29 at HashType
+    ∷ call (given record13 (example.promSig 1)) 0x110 (refused 45 0xE0) []
+    ∷ call (given record13 (example.promSig 2)) 0x110 (refused 29 0xF0) []
+    ∷ []
+
+calls-hold : map outcome calls ≡ map foretold calls
+unfolding written checked reviewed image laid body laidRecords laidRecord crcLength check spelled sixteenAt tab flatten covered checkOver promSigAt first chain visit next round16 le32 le64 crc32 shift shifts step32 judged rule20 rule21 rule22 rule23 rule24 rule25 rule26 rule27 rule28 rule29 rule30 rule31 rule32 rule33 misplaced gapUsed expected outOfOrder endAt mapAt boardAt laterAt shapeAt shapeOf listedShape records badMapHead badBoardHead badPromSigHead badHash badHashOf hashSize badMap badMapField badMapRecord badBoardType badInside reservedUsed badLabel textEnd isLabelText isText nonzero all le16
+calls-hold = refl
+
+-- what the reader says of the fields: 30 at the field or the label's bad byte, and 31
+abbrev fields : List Call
+fields =
+    -- PartLabel without its '$'; BlkLength 0; PartSize of two records where one is given; Master 2
+    call (parts 4 (mapWith 0x00 4096 4096 1) record13 (boardWith 0) []) 0xE0 (refused 30 0x43) []
+    ∷ call (parts 4 (mapWith 0x24 0 0 1) record13 (boardWith 0) []) 0xE0 (refused 30 0x50) []
+    ∷ call (parts 4 (mapWith 0x24 4096 8192 1) record13 (boardWith 0) []) 0xE0 (refused 30 0x56) []
+    ∷ call (parts 4 (mapWith 0x24 4096 4096 2) record13 (boardWith 0) []) 0xE0 (refused 30 0x5B) []
+    -- a record's label with a byte that is no character; an address over 7Fh
+    ∷ call (given (top 0x1F 0x50) []) 0xE0 (refused 30 0x63) []
+    ∷ call (given (top 0x31 0x80) []) 0xE0 (refused 30 0x78) []
+    -- BoardType 2
+    ∷ call (parts 4 map13 record13 (boardWith 2) []) 0xE0 (refused 31 0xCC) []
+    ∷ []
+
+fields-hold : map outcome fields ≡ map foretold fields
+unfolding written checked reviewed image laid body laidRecords laidRecord crcLength check spelled sixteenAt tab flatten covered checkOver promSigAt first chain visit next round16 le32 le64 crc32 shift shifts step32 judged rule20 rule21 rule22 rule23 rule24 rule25 rule26 rule27 rule28 rule29 rule30 rule31 misplaced gapUsed expected outOfOrder endAt mapAt boardAt laterAt records badMapHead badBoardHead badMap badMapField badMapRecord badBoardType badLabel textEnd isLabelText isText nonzero le16
+fields-hold = refl
+
+-- ---- case 13: what laws/Written and laws/Rebuilt claim of every image, here by computation alone; and an image with a `$PromSig`, which the reader accepts
 pub record Computed : Type 0 where
   pub written13 : written parts13 (blank 0xE2) ≡ (WriteAnswer.Length 0xE0, image13 ++ blank 2)
   pub again : judged full (image13 ++ blank 2) ≡ Accepted 3
   pub back : partsOf (image13 ++ blank 2) ≡ parts13
+  pub accepted13 : judged full image13 ≡ Accepted 3
+  pub signed : judged full imageSigned ≡ Accepted 4
 
 pub computed : Computed
-unfolding written checked reviewed image laid body laidRecords laidRecord crcLength check spelled sixteenAt tab flatten covered checkOver promSigAt first chain visit next round16 le16 le32 le64 crc32 shift shifts step32 judged rule20 rule21 rule22 rule23 rule24 rule25 rule26 rule27 rule28 rule29 rule30 rule31 rule32 rule33 misplaced gapUsed expected outOfOrder endAt mapAt boardAt laterAt shapeAt shapeOf listedShape records badMapHead badBoardHead badPromSigHead badHash badHashOf hashSize badMap badMapField badMapRecord badBoardType badInside reservedUsed badLabel textEnd isLabelText isText nonzero all partsOf recordsOf mapRecordAt eepromAt eeprMapAt brdInfoAt restAt
-computed = record { written13 = refl; again = refl; back = refl }
+unfolding written checked reviewed image laid body laidRecords laidRecord crcLength check spelled sixteenAt tab flatten covered checkOver promSigAt first chain visit next round16 le32 le64 crc32 shift shifts step32 judged rule20 rule21 rule22 rule23 rule24 rule25 rule26 rule27 rule28 rule29 rule30 rule31 rule32 rule33 misplaced gapUsed expected outOfOrder endAt mapAt boardAt laterAt shapeAt shapeOf listedShape records badMapHead badBoardHead badPromSigHead badHash badHashOf hashSize badMap badMapField badMapRecord badBoardType badInside reservedUsed badLabel textEnd isLabelText isText nonzero all le16 partsOf recordsOf mapRecordAt eepromAt eeprMapAt brdInfoAt
+computed = record { written13 = refl; again = refl; back = refl; accepted13 = refl; signed = refl }

@@ -1,7 +1,7 @@
 -- The image that the writer makes. Paper 01, "Writers": "It works out Lengths, Offsets and the check fields by the rules above, and writes minor 0 and zero
 -- reserved bytes." Each structure has its fields in the order of layout paper 000. Assumes nothing.
 use Prim.Native.Nat.{ℕ, _+_, _*_}
-use mathlib.Core.List.{List, [], _∷_, _++_, flatten}
+use mathlib.Core.List.{List, _∷_, _++_, flatten}
 use lib.ListN.{length, replicate}
 use Rattle.board.specs.declared.BrdInfoFields.{BrdInfoFields}
 use Rattle.board_layout.specs.Places.{MapData, mapRecordSize}

@@ -3,5 +3,6 @@ pub mod Parts
 pub mod Image
 pub mod Written
 pub mod PartsOf
+pub mod ExampleParts
 pub mod Examples
 pub mod laws

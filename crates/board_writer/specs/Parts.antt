@@ -1,6 +1,6 @@
 -- What the writer takes. Paper 01, "Writers": "Version, the map's fields with one run of records (label and address, seventeen bytes each), the board's fields,
 -- labels as sixteen bytes, and one run of further bytes (heads and padding included)". Assumes nothing.
-use Prim.Native.Nat.{ℕ, _+_, _*_, _/_, _%_, _<_}
+use Prim.Native.Nat.{ℕ, _/_, _%_, _<_}
 use mathlib.Core.Bool.{not}
 use mathlib.Core.List.{List}
 use lib.Dec.{eqb}

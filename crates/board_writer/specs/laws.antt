@@ -1,28 +1,34 @@
 -- What is proved of the definitions. Assumes nothing.
+-- ---- pieces end to end, blocks where they lie, and the records of a map
 pub mod Pieces
 pub mod Lies
+pub mod MapRecords
+-- ---- what is written reads back
 pub mod Length
 pub mod Blocks
 pub mod Places
 pub mod Fields
 pub mod Back
 pub mod Covered
-pub mod Check
 pub mod Front
-pub mod Written
 pub mod Order
+pub mod Written
 pub mod Shown
 pub mod Reader
+-- ---- the check fields of each image that is made are right
+pub mod Check
+pub mod Bytes
 pub mod Octets
 pub mod CheckFields
-pub mod Case13
+-- ---- what is accepted is rebuilt to the last byte
 pub mod Read
 pub mod Fixed
 pub mod Reserved
-pub mod Flat
 pub mod Records
 pub mod Laid
 pub mod Rebuilt
-pub mod Case13Rebuilt
+-- ---- these theorems at case 13
+pub mod Case13
+-- ---- how the code builds an image
 pub mod Building
 pub mod Sealing

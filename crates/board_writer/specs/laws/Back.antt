@@ -1,20 +1,22 @@
 -- The parts that are read of an image are those it was made of, whatever its check fields are and whatever bytes follow it. Assumes nothing.
-use Prim.Native.Nat.{ℕ, _+_, _-_, _*_, _%_, _<_}
-use mathlib.Core.List.{List, [], _∷_, _++_, map, flatten}
+use Prim.Native.Nat.{ℕ, _+_, _-_, _*_, _%_, _≤_, _<_}
+use mathlib.Core.List.{List, [], _∷_, _++_, flatten}
 use mathlib.Core.Path.{_≡_, ap, ap₂, _∙_}
 use native.Mathlib.Omega.{arith}
 use lib.ListN.{length}
 use Rattle.board.specs.Items.{eepromAt, eeprMapAt, brdInfoAt}
 use Rattle.board.specs.Records.{mapRecordAt}
 use Rattle.board_layout.specs.Places.{MapLabel, Address, mapRecordSize}
-use Rattle.board_writer.specs.Image.{laidRecord, mapLength, imageLength, laid}
+use Rattle.board_writer.specs.Image.{laidRecord, mapLength, imageLength, laid, crcLength, check, image}
 use Rattle.board_writer.specs.Parts.{Parts, Fits, givenSize, recordCount, rule46}
 use Rattle.board_writer.specs.PartsOf.{mapGiven, recordGiven, recordsOf, furtherOf, partsOf}
 use Rattle.board_writer.specs.laws.Blocks.{record-lies}
 use Rattle.board_writer.specs.laws.Fields.{version-read, map-read, board-read, further-read}
+use Rattle.board_writer.specs.laws.Length.{recordBlock}
 use Rattle.board_writer.specs.laws.Lies.{Lies, sixteen-in}
-use Rattle.board_writer.specs.laws.Pieces.{flat-runs, map-tab}
-use Rattle.board_writer.specs.laws.Places.{struct-len-is, map-at, board-at, board-end, records-at}
+use Rattle.board_writer.specs.laws.MapRecords.{run-records}
+use Rattle.board_writer.specs.laws.Pieces.{flat-runs}
+use Rattle.board_writer.specs.laws.Places.{map-head, struct-len-is, map-at, board-at, board-end}
 use Rattle.chain.specs.Fill.{tab}
 use Rattle.chain.specs.declared.Found.the-variants.{Nothing}
 use Rattle.chain.specs.laws.Checks.{kept-equal}
@@ -37,7 +39,7 @@ module _ (x : Parts) (check covers : ℕ) (rest : List ℕ) (small : imageLength
   unfolding mapRecordAt laidRecord sixteenAt spelled tab
   record-given k h =
       let r : ℕ = 0x60 + k * mapRecordSize in
-      let one : List ℕ = laidRecord (x .records) (x .map .blklength) k in
+      let one : List ℕ = recordBlock x k in
       let lies : Lies s r one = record-lies x check covers rest k h in
       ap₂ (λ (label : Sixteen) (address : ℕ). sixteenBytes label ++ (address ∷ [])) (sixteen-in s r one lies MapLabel (omega arith))
       (lies Address (omega arith))
@@ -45,14 +47,11 @@ module _ (x : Parts) (check covers : ℕ) (rest : List ℕ) (small : imageLength
 
   -- all of them, where whole seventeens are given
   records-back : rule46 x ≡ Nothing → recordsOf s ≡ x .records
-  unfolding recordsOf
   records-back good =
-      let given : ℕ → List ℕ = λ r. recordGiven (mapRecordAt s r) in
-      let place : ℕ → ℕ = λ k. 0x60 + k * mapRecordSize in
-      ap (λ (l : List ℕ). flatten (map given l)) (records-at x check covers rest small)
+      run-records s 0x30 (recordCount x) (omega (arith, map-head x check covers rest small .length)) (map-at x check covers rest small)
       ∙ ap flatten
-      (map-tab given place (recordCount x)
-      ∙ tab-agree (λ k. given (place k)) (λ k. run (x .records) (0 + k * givenSize) givenSize) (recordCount x) record-given)
+      (tab-agree (λ k. recordGiven (mapRecordAt s (0x60 + k * mapRecordSize))) (λ k. run (x .records) (0 + k * givenSize) givenSize) (recordCount x)
+      record-given)
       ∙ flat-runs (x .records) givenSize 0 (recordCount x)
       ∙ ap (run (x .records) 0) (records-whole x good)
       ∙ run-all (x .records)
@@ -64,6 +63,7 @@ module _ (x : Parts) (check covers : ℕ) (rest : List ℕ) (small : imageLength
       ap₂ (λ (end board : ℕ). run s board (end - board)) (struct-len-is x check covers rest small) (board-end x check covers rest small)
       ∙ ap (run s (0x90 + mapLength x)) count ∙ further-read x check covers rest
 
+  -- all of it
   pub parts-back : Fits x → rule46 x ≡ Nothing → partsOf s ≡ x
   unfolding partsOf eepromAt
   parts-back fits good i =
@@ -74,3 +74,8 @@ module _ (x : Parts) (check covers : ℕ) (rest : List ℕ) (small : imageLength
         board = (ap (brdInfoAt s) (board-at x check covers rest small) ∙ board-read x check covers rest fits) i;
         further = further-back i;
       }
+
+-- so it is of the image that is made
+pub parts-image : (x : Parts) (rest : List ℕ) → Fits x → rule46 x ≡ Nothing → imageLength x ≤ 65536 → partsOf (image x ++ rest) ≡ x
+unfolding image
+parts-image x rest fits good small = parts-back x (check x) (crcLength x) rest (omega arith) fits good

@@ -1,18 +1,34 @@
 -- The theorems at case 13: their premises are met there. Assumes nothing.
-use Prim.Native.Nat.{ℕ}
-use mathlib.Core.List.{List}
-use mathlib.Core.Path.{_≡_, ap}
+use Prim.Native.Nat.{ℕ, _<_}
+use mathlib.Core.List.{List, _++_}
+use mathlib.Core.Path.{_≡_, refl, ap}
 use native.Mathlib.Omega.{arith}
+use lib.Dec.{ltb}
 use lib.ListN.{take}
-use Rattle.board_writer.specs.Examples.{blank, parts13, computed}
+use Rattle.board_layout.specs.Layout.{round16, next, mapAt, boardAt}
+use Rattle.board_rules.specs.Rules.{promSigAt}
+use Rattle.board_writer.specs.ExampleParts.{blank, parts13, image13}
+use Rattle.board_writer.specs.Examples.{computed}
 use Rattle.board_writer.specs.Parts.{Fits}
+use Rattle.board_writer.specs.PartsOf.{partsOf, Rebuildable}
 use Rattle.board_writer.specs.Written.{written}
 use Rattle.board_writer.specs.laws.Reader.{Answers, written-answers}
+use Rattle.board_writer.specs.laws.Rebuilt.{rebuilt}
 use Rattle.board_writer.specs.laws.Written.{ReadsBack, written-reads-back, buffer-reads-back}
+use Rattle.chain.specs.Chain.{visit, chain}
+use Rattle.chain.specs.Fill.{tab}
+use Rattle.chain.specs.First.{first, when}
+use Rattle.chain.specs.declared.Found.the-variants.{Nothing}
+use Rattle.chain.specs.laws.All.{all-map}
+use Rattle.chain.specs.laws.Checks.{kept-under}
+use Rattle.chain.specs.laws.First.{first-all}
 use Rattle.kinds.specs.Kinds.{bare}
+use Rattle.octets.specs.Bytes.{Octets, le16, le32, le64}
+use Rattle.octets.specs.laws.Bytes.{all-octets}
 use Rattle.verdict.specs.Said.{says, writeSaid}
 use Rattle.verdict.specs.declared.WriteAnswer.{WriteAnswer}
 
+-- ---- what is written reads back
 -- each number fits its field
 fits13 : Fits parts13
 fits13 =
@@ -30,7 +46,7 @@ fits13 =
 told13 : writeSaid (written parts13 (blank 0xE2) .0) ≡ says 0xE0
 told13 = ap (λ (w : WriteAnswer × List ℕ). writeSaid (w .0)) (computed .written13)
 
--- what is written reads back: the image alone, and the whole buffer
+-- the image alone, and the whole buffer
 reads-back13 : ReadsBack parts13 (take 0xE0 (written parts13 (blank 0xE2) .1))
 reads-back13 = written-reads-back parts13 (blank 0xE2) 0xE0 told13 fits13 0xE0 (omega arith) (omega arith)
 
@@ -40,3 +56,21 @@ whole13 = buffer-reads-back parts13 (blank 0xE2) 0xE0 told13 fits13 (omega arith
 -- field by field, also to a reader with the bare list
 answers13 : Answers parts13 bare (take 0xE0 (written parts13 (blank 0xE2) .1))
 answers13 = written-answers parts13 (blank 0xE2) 0xE0 told13 fits13 0xE0 (omega arith) (omega arith) bare
+
+-- ---- what is accepted is rebuilt
+rebuildable13 : Rebuildable image13
+unfolding promSigAt first chain visit next round16 mapAt boardAt tab le16 le32 le64
+rebuildable13 = record { unsigned = refl; header = refl; map = refl; board = refl }
+
+-- no element is over 255
+octets13 : Octets image13
+unfolding first
+octets13 =
+    all-octets image13
+    (all-map (λ b. when (ltb 255 b) b ≡ Nothing) (λ b. b < 256) (λ b h. omega (arith, kept-under 255 b b h)) image13
+    (first-all (λ b. when (ltb 255 b) b) image13 refl))
+
+-- sixteen bytes of the buffer stay
+rebuilt13 : (writeSaid (written (partsOf image13) (blank 0xF0) .0) ≡ says 0xE0) × (written (partsOf image13) (blank 0xF0) .1 ≡ image13 ++ blank 0x10)
+unfolding le32 tab
+rebuilt13 = rebuilt image13 3 (computed .accepted13) rebuildable13 octets13 (blank 0xF0) (omega arith)

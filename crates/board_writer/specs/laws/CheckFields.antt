@@ -13,9 +13,10 @@ use Rattle.board_rules.specs.Rules.{promSigAt, coveredUpTo, covered, checkOver,
 use Rattle.board_rules.specs.laws.Order.{prom-sig-below}
 use Rattle.board_writer.specs.Image.{imageLength, body, laid, crcLength, check, image}
 use Rattle.board_writer.specs.Parts.{Parts}
+use Rattle.board_writer.specs.laws.Bytes.{octets-append}
 use Rattle.board_writer.specs.laws.Check.{covered-laid, check-laid}
 use Rattle.board_writer.specs.laws.Fields.{check-read, covers-read}
-use Rattle.board_writer.specs.laws.Octets.{octets-append, laid-octets}
+use Rattle.board_writer.specs.laws.Octets.{laid-octets}
 use Rattle.board_writer.specs.laws.Places.{struct-len-is}
 use Rattle.chain.specs.First.{checks, when}
 use Rattle.chain.specs.declared.Found.{Found}
@@ -67,6 +68,7 @@ module _ (x : Parts) (most : imageLength x ≤ 65536) (octets : Octets (body x))
         ap (λ (s : List ℕ). le32 s CrcLength) (sym whole) ∙ covers-read x c n [] (covers-small x most) ∙ covered-laid x c n,
       )
 
+  -- so rule 27 is not broken
   pub check-fields-hold : rule27 (image x) ≡ Nothing
   unfolding rule27
   check-fields-hold =

@@ -10,10 +10,11 @@ use Rattle.board.specs.Records.{mapRecordAt}
 use Rattle.board.specs.declared.EeprMapFields.{EeprMapFields}
 use Rattle.board.specs.declared.MapRecord.{MapRecord}
 use Rattle.board_layout.specs.Layout.{lengthAt}
-use Rattle.board_layout.specs.Places.{CrcLength, Version, ManuName, BrdName, BrdSerial, BoardId, FabId, EcId, BoardType, PartLabel, BlkLength, PageSize, PartSize, BusNumber, Master, Speed, MapData, MapLabel, MapLength, MapOffset, Address, mapRecordSize}
-use Rattle.board_writer.specs.Image.{headerOf, mapOf, boardOf, laidRecord, mapLength, imageLength, laid}
+use Rattle.board_layout.specs.Places.{Crc32, CrcLength, Version, ManuName, BrdName, BrdSerial, BoardId, FabId, EcId, BoardType, PartLabel, BlkLength, PageSize, PartSize, BusNumber, Master, Speed, MapData, MapLabel, MapLength, MapOffset, Address, mapRecordSize}
+use Rattle.board_writer.specs.Image.{laidRecord, mapLength, imageLength, laid}
 use Rattle.board_writer.specs.Parts.{Parts, Fits, givenSize, recordCount}
 use Rattle.board_writer.specs.laws.Blocks.{header-lies, map-lies, record-lies, board-lies, further-lies}
+use Rattle.board_writer.specs.laws.Length.{headerBlock, mapBlock, recordBlock, boardBlock}
 use Rattle.board_writer.specs.laws.Lies.{Lies, lies-run, le16-in, le32-in, sixteen-in}
 use Rattle.board_writer.specs.laws.Places.{map-head}
 use Rattle.chain.specs.Fill.{tab}
@@ -49,36 +50,32 @@ module _ (x : Parts) (check covers : ℕ) (rest : List ℕ) where
   abbrev s : List ℕ
   s = laid x check covers ++ rest
 
-  abbrev header : List ℕ
-  header = headerOf (imageLength x) check covers (x .version)
-
-  abbrev map : List ℕ
-  map = mapOf (mapLength x) (x .map)
-
   -- the four bytes of the header's field Crc32, CrcLength or Version
-  pub check-read : check < 0x1_0000_0000 → le32 s 0x14 ≡ check
+  pub check-read : check < 0x1_0000_0000 → le32 s Crc32 ≡ check
   unfolding spelled le32 tab
-  check-read h = le32-in s 0 header (header-lies x check covers rest) 0x14 (omega arith) ∙ little-spelled 4 check h
+  check-read h = le32-in s 0 (headerBlock x check covers) (header-lies x check covers rest) Crc32 (omega arith) ∙ little-spelled 4 check h
 
   pub covers-read : covers < 0x1_0000_0000 → le32 s CrcLength ≡ covers
   unfolding spelled le32 tab
-  covers-read h = le32-in s 0 header (header-lies x check covers rest) CrcLength (omega arith) ∙ little-spelled 4 covers h
+  covers-read h = le32-in s 0 (headerBlock x check covers) (header-lies x check covers rest) CrcLength (omega arith) ∙ little-spelled 4 covers h
 
   pub version-read : Fits x → le32 s Version ≡ x .version
   unfolding spelled le32 tab
   version-read fits =
-      le32-in s 0 header (header-lies x check covers rest) Version (omega arith) ∙ little-spelled 4 (x .version) (fits .version)
+      le32-in s 0 (headerBlock x check covers) (header-lies x check covers rest) Version (omega arith) ∙ little-spelled 4 (x .version) (fits .version)
 
   -- where the records lie
   rest-read : imageLength x < 0x1_0000_0000 → restAt s 0x30 MapData ≡ record { place = 0x60; length = mapRecordSize * recordCount x }
   unfolding restAt
   rest-read small =
-      let e : lengthAt s 0x30 - MapData ≡ mapRecordSize * recordCount x = omega (arith, map-head x check covers rest small .long) in
+      let e : lengthAt s 0x30 - MapData ≡ mapRecordSize * recordCount x = omega (arith, map-head x check covers rest small .length) in
       ap (λ (n : ℕ). record { place = 0x60; length = n }) e
 
+  -- the map, up to its records
   pub map-read : imageLength x < 0x1_0000_0000 → Fits x → eeprMapAt s 0x30 ≡ mapShown x
   unfolding eeprMapAt sixteenAt spelled le16 le32 tab
   map-read small fits i =
+      let map : List ℕ = mapBlock x in
       let lies : Lies s 0x30 map = map-lies x check covers rest in
       record {
         partlabel = sixteen-in s 0x30 map lies PartLabel (omega arith) i;
@@ -96,7 +93,7 @@ module _ (x : Parts) (check covers : ℕ) (rest : List ℕ) where
   unfolding mapRecordAt laidRecord sixteenAt spelled le32 tab
   record-read k h offset i =
       let r : ℕ = 0x60 + k * mapRecordSize in
-      let one : List ℕ = laidRecord (x .records) (x .map .blklength) k in
+      let one : List ℕ = recordBlock x k in
       let lies : Lies s r one = record-lies x check covers rest k h in
       record {
         maplabel = sixteen-in s r one lies MapLabel (omega arith) i;
@@ -105,11 +102,12 @@ module _ (x : Parts) (check covers : ℕ) (rest : List ℕ) where
         address = record { 0 = lies Address (omega arith) i };
       }
 
+  -- the board
   pub board-read : Fits x → brdInfoAt s (0x30 + mapLength x) ≡ x .board
   unfolding brdInfoAt sixteenAt spelled le32 tab
   board-read fits i =
       let b : ℕ = 0x30 + mapLength x in
-      let board : List ℕ = boardOf (x .board) in
+      let board : List ℕ = boardBlock x in
       let lies : Lies s b board = board-lies x check covers rest in
       record {
         manuname = sixteen-in s b board lies ManuName (omega arith) i;

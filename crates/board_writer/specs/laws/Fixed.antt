@@ -5,28 +5,21 @@ use mathlib.Core.List.{List}
 use mathlib.Core.Path.{_≡_, refl, ap, _∙_}
 use native.Mathlib.Nat.{add-zero}
 use Rattle.board.specs.Items.{eepromAt, eeprMapAt, brdInfoAt}
-use Rattle.board_layout.specs.Layout.{signatureAt, majorAt, minorAt, lengthAt, structLen}
+use Rattle.board_layout.specs.Layout.{structLen}
 use Rattle.board_layout.specs.Places.{VerMajor, VerMinor, Length, StructLen, Crc32, CrcLength, Version, ManuName, BrdName, BrdSerial, BoardId, FabId, EcId, BoardType, PartLabel, BlkLength, PageSize, PartSize, BusNumber, Master, Speed, MapLabel, MapLength, MapOffset, Address, mapRecordSize}
 use Rattle.board_rules.specs.Rules.{headerLength}
 use Rattle.board_writer.specs.Image.{head, headerOf, mapOf, recordOf, boardOf}
 use Rattle.board_writer.specs.PartsOf.{mapGiven}
+use Rattle.board_writer.specs.laws.Places.{Head}
 use Rattle.board_writer.specs.laws.Read.{beside, one-run, zeros-run, two-run, four-run, eight-run}
 use Rattle.kinds.specs.Signatures.{eeprom, eeprMap, brdInfo}
 use Rattle.octets.specs.Bytes.{byte, Octets, run, spelled, le16, le32, le64}
 use Rattle.octets.specs.Runs.{sixteenAt}
 use Rattle.octets.specs.laws.Runs.{bytes-sixteen}
 
-module _ (s : List ℕ) (p : ℕ) where
-  -- a head of version 1.0
-  pub record Head (g n : ℕ) : Type 0 where
-    pub signature : signatureAt s p ≡ g
-    pub major : majorAt s p ≡ 1
-    pub minor : minorAt s p ≡ 0
-    pub length : lengthAt s p ≡ n
-
-  -- the bytes from one offset up to another are zero
-  abbrev pub Zero : ℕ → ℕ → Type 0
-  Zero from to = (i : ℕ) → from ≤ i → i < to → byte s (p + i) ≡ 0
+-- the bytes from one offset up to another are zero
+abbrev pub Zero : List ℕ → ℕ → ℕ → ℕ → Type 0
+Zero s p from to = (i : ℕ) → from ≤ i → i < to → byte s (p + i) ≡ 0
 
 module _ (s : List ℕ) (octets : Octets s) (p : ℕ) where
   -- the generic head
@@ -84,7 +77,7 @@ module _ (s : List ℕ) (octets : Octets s) (p : ℕ) where
       (beside s p EcId 4 20 (four-at EcId)
       (beside s p BoardType 1 19 (one-run s p BoardType) (zeros-run s p 0x4D 19 zero)))))))))
 
--- the header, with the check fields that it has
+-- ---- the header, with the check fields that it has
 pub header-run : (s : List ℕ) (octets : Octets s) → Head s 0 eeprom headerLength → Zero s 0 0x20 0x30
     → headerOf (structLen s) (le32 s Crc32) (le32 s CrcLength) (eepromAt s 0 .version) ≡ run s 0 0x30
 unfolding eepromAt spelled

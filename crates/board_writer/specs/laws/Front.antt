@@ -1,4 +1,5 @@
--- An image that is accepted, with other bytes after it: it is accepted as before if they are not too many, and has the same `$PromSig`. Assumes nothing.
+-- An image that is accepted, and another that agrees with it up to its StructLen, as does the image with other bytes after it: that one is accepted too if it is
+-- not too long, and has the same `$PromSig`. Assumes nothing.
 use Prim.Native.Nat.{ℕ, _+_, _≤_}
 use mathlib.Core.List.{List, _++_}
 use mathlib.Core.Path.{_≡_, sym, _∙_}
@@ -18,24 +19,33 @@ use Rattle.kinds.specs.declared.Kinds.{Kinds}
 use Rattle.octets.specs.laws.Same.{Same}
 use Rattle.verdict.specs.declared.Judged.the-variants.{Accepted}
 
-module _ (k : Kinds) (s rest : List ℕ) (count : ℕ) (e : judged k s ≡ Accepted count) where
+module _ (k : Kinds) (s t : List ℕ) (count : ℕ) (e : judged k s ≡ Accepted count) (same : Same s t 0 (structLen s)) where
+  -- StructLen is within the image
   within : (0x30 ≤ structLen s) × (structLen s ≤ length s)
   within = struct-len-within k s count e
 
-  -- both agree up to StructLen
-  same : Same s (s ++ rest) 0 (structLen s)
-  same q _ h = sym (List·getD-append s rest 0 q (omega (arith, within .1)))
+  -- the other is accepted
+  pub same-accepted : structLen s ≤ length t → length t ≤ 65536 → judged k t ≡ Accepted count
+  same-accepted whole most =
+      sym (judged-same s t (within .0) same (within .1) whole (lent-within k s count e .1) most k) ∙ e
 
-  pub front-accepted : length (s ++ rest) ≤ 65536 → judged k (s ++ rest) ≡ Accepted count
-  front-accepted most =
+  -- and has the same `$PromSig`
+  pub same-signed : promSigAt t ≡ promSigAt s
+  same-signed =
       sym
-      (judged-same s (s ++ rest) (within .0) same (within .1) (omega (arith, within .1, length-append s rest))
-      (omega (arith, lent-within k s count e .1)) most k)
-      ∙ e
+      (prom-sig-agree s t (struct-len-same s t (within .0) same)
+      (all-map (Fits s) (λ p. Same s t p (p + headSize)) (λ p f. head-same s t (within .0) same p (f .room)) (structures s) (structures-fit k s count e)))
+
+-- ---- with other bytes after it
+module _ (k : Kinds) (s rest : List ℕ) (count : ℕ) (e : judged k s ≡ Accepted count) where
+  -- it agrees up to StructLen
+  front : Same s (s ++ rest) 0 (structLen s)
+  front q _ h = sym (List·getD-append s rest 0 q (omega (arith, struct-len-within k s count e .1)))
+
+  -- so it is accepted, and its `$PromSig` is the same
+  pub front-accepted : length (s ++ rest) ≤ 65536 → judged k (s ++ rest) ≡ Accepted count
+  front-accepted =
+      same-accepted k s (s ++ rest) count e front (omega (arith, struct-len-within k s count e .1, length-append s rest))
 
   pub front-signed : promSigAt (s ++ rest) ≡ promSigAt s
-  front-signed =
-      sym
-      (prom-sig-agree s (s ++ rest) (struct-len-same s (s ++ rest) (within .0) same)
-      (all-map (Fits s) (λ p. Same s (s ++ rest) p (p + headSize)) (λ p f. head-same s (s ++ rest) (within .0) same p (f .room)) (structures s)
-      (structures-fit k s count e)))
+  front-signed = same-signed k s (s ++ rest) count e front

@@ -4,7 +4,7 @@ use Prim.Native.Nat.{ℕ, _+_, _-_, _*_, _≤_}
 use mathlib.Core.List.{List}
 use mathlib.Core.Path.{_≡_, refl, ap, ap₂, _∙_}
 use native.Mathlib.Omega.{arith}
-use lib.ListN.{length, take}
+use lib.ListN.{take}
 use Rattle.board.specs.Items.{eepromAt, eeprMapAt}
 use Rattle.board_layout.specs.Layout.{lengthAt, structLen, endAt, mapAt, boardAt, mapCount}
 use Rattle.board_layout.specs.Places.{Crc32, CrcLength, BlkLength, MapData, mapRecordSize}
@@ -26,13 +26,13 @@ use Rattle.verdict.specs.declared.Judged.the-variants.{Accepted}
 module _ (s : List ℕ) (n : ℕ) (e : judged full s ≡ Accepted n) where
   -- ---- where the parts lie
   -- the map's Length, where map and board start, and where the board ends
-  map-length : lengthAt s (mapAt s) ≡ MapData + mapRecordSize * mapCount s (mapAt s)
-  map-length = omega (arith, map-head full s n e .1)
+  map-length : lengthAt s (mapAt s) ≡ MapData + mapCount s (mapAt s) * mapRecordSize
+  map-length = map-head full s n e .1
 
   map-start : mapAt s ≡ headerLength
   map-start = map-place full s n e ∙ header-is full s n e .2
 
-  board-start : boardAt s ≡ mapAt s + (MapData + mapRecordSize * mapCount s (mapAt s))
+  board-start : boardAt s ≡ mapAt s + (MapData + mapCount s (mapAt s) * mapRecordSize)
   unfolding endAt
   board-start = board-place full s n e ∙ ap (λ (k : ℕ). mapAt s + k) map-length
 
@@ -68,7 +68,7 @@ module _ (s : List ℕ) (n : ℕ) (e : judged full s ≡ Accepted n) where
         (record { signature = map-second full s n e .1; major = map-head full s n e .0; minor = r .map; length = refl }) (map-zero s n e r)
 
     records-parts : laidRecords (partsOf s .records) (partsOf s .map .blklength) (recordCount (partsOf s))
-        ≡ run s (mapAt s + MapData) (mapRecordSize * mapCount s (mapAt s))
+        ≡ run s (mapAt s + MapData) (mapCount s (mapAt s) * mapRecordSize)
     unfolding partsOf eeprMapAt
     records-parts = ap (laidRecords (recordsOf s) (le32 s (mapAt s + BlkLength))) counted ∙ laid-records s n e r octets
 
@@ -85,14 +85,15 @@ module _ (s : List ℕ) (n : ℕ) (e : judged full s ≡ Accepted n) where
     body-parts =
         let count : ℕ = mapCount s (mapAt s) in
         let end : ℕ = endAt s (boardAt s) in
-        let k : MapData + mapRecordSize * count + 0x60 + (structLen s - end) ≡ structLen s - headerLength =
+        let k : MapData + count * mapRecordSize + 0x60 + (structLen s - end) ≡ structLen s - headerLength =
         omega (arith, map-start, board-start, board-end .0, board-end .1) in
-        joined s (mapAt s) (MapData + mapRecordSize * count + 0x60) end (structLen s - end) (omega (arith, board-start, board-end .0))
-        (joined s (mapAt s) (MapData + mapRecordSize * count) (boardAt s) 0x60 board-start
-        (joined s (mapAt s) MapData (mapAt s + MapData) (mapRecordSize * count) refl map-parts records-parts) board-parts)
+        joined s (mapAt s) (MapData + count * mapRecordSize + 0x60) end (structLen s - end) (omega (arith, board-start, board-end .0))
+        (joined s (mapAt s) (MapData + count * mapRecordSize) (boardAt s) 0x60 board-start
+        (joined s (mapAt s) MapData (mapAt s + MapData) (count * mapRecordSize) refl map-parts records-parts) board-parts)
         refl
         ∙ ap₂ (run s) map-start k
 
+    -- all of them
     pub laid-parts : laid (partsOf s) (le32 s Crc32) (le32 s CrcLength) ≡ take (structLen s) s
     unfolding laid
     laid-parts =

@@ -1,4 +1,4 @@
--- How many bytes each block of an image has, and so the image itself, whatever its check fields are. Assumes nothing.
+-- The blocks of an image and how many bytes each has, and so the image itself, whatever its check fields are. Assumes nothing.
 use Prim.Native.Nat.{ℕ, _+_, _*_}
 use mathlib.Core.List.{List, _++_}
 use mathlib.Core.Path.{_≡_, refl, _∙_}
@@ -13,6 +13,24 @@ use Rattle.board_writer.specs.declared.MapFields.{MapFields}
 use Rattle.board_writer.specs.laws.Pieces.{flat-length}
 use Rattle.octets.specs.Bytes.{spelled}
 
+-- ---- the blocks of the parts
+abbrev pub headerBlock : Parts → ℕ → ℕ → List ℕ
+headerBlock x check covers = headerOf (imageLength x) check covers (x .version)
+
+abbrev pub mapBlock : Parts → List ℕ
+mapBlock x = mapOf (mapLength x) (x .map)
+
+-- record k, and all of them
+abbrev pub recordBlock : Parts → ℕ → List ℕ
+recordBlock x = laidRecord (x .records) (x .map .blklength)
+
+abbrev pub recordsBlock : Parts → List ℕ
+recordsBlock x = laidRecords (x .records) (x .map .blklength) (recordCount x)
+
+abbrev pub boardBlock : Parts → List ℕ
+boardBlock x = boardOf (x .board)
+
+-- ---- their lengths
 pub header-length : (end check covers version : ℕ) → length (headerOf end check covers version) ≡ headerLength
 unfolding spelled
 header-length end check covers version = refl
@@ -38,25 +56,21 @@ records-length records block n = flat-length (laidRecord records block) mapRecor
 pub body-length : (x : Parts) → length (body x) ≡ mapLength x + 0x60 + length (x .further)
 unfolding body
 body-length x =
-    let map : List ℕ = mapOf (mapLength x) (x .map) in
-    let records : List ℕ = laidRecords (x .records) (x .map .blklength) (recordCount x) in
-    let board : List ℕ = boardOf (x .board) in
-    length-append (map ++ records ++ board) (x .further)
+    length-append (mapBlock x ++ recordsBlock x ++ boardBlock x) (x .further)
     ∙ omega (
       arith,
-      length-append (map ++ records) board,
-      length-append map records,
+      length-append (mapBlock x ++ recordsBlock x) (boardBlock x),
+      length-append (mapBlock x) (recordsBlock x),
       map-length (mapLength x) (x .map),
       records-length (x .records) (x .map .blklength) (recordCount x),
       board-length (x .board),
     )
 
--- with any check fields
+-- the image, with any check fields and as it is made
 pub laid-length : (x : Parts) (check covers : ℕ) → length (laid x check covers) ≡ imageLength x
 unfolding laid
 laid-length x check covers =
-    let header : List ℕ = headerOf (imageLength x) check covers (x .version) in
-    length-append header (body x) ∙ omega (arith, header-length (imageLength x) check covers (x .version), body-length x)
+    length-append (headerBlock x check covers) (body x) ∙ omega (arith, header-length (imageLength x) check covers (x .version), body-length x)
 
 pub image-length : (x : Parts) → length (image x) ≡ imageLength x
 unfolding image

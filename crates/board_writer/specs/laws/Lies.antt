@@ -47,6 +47,7 @@ lies-run s p h lies = tab-agree (λ i. byte s (p + i)) (λ i. byte h (0 + i)) (l
 
 -- ---- what is read at offset o of a block
 module _ (s : List ℕ) (p : ℕ) (h : List ℕ) (lies : Lies s p h) (o : ℕ) where
+  -- a run, and with it a number of two, four or eight bytes, and sixteen bytes
   pub run-in : (n : ℕ) → o + n ≤ length h → run s (p + o) n ≡ run h o n
   run-in n k =
       tab-agree (λ i. byte s (p + o + i)) (λ i. byte h (o + i)) n (λ i l. ap (byte s) (omega arith) ∙ lies (o + i) (omega arith))

@@ -1,24 +1,19 @@
 -- An image is made of bytes if what is given is: each block is numbers, spelled in bytes, and bytes given. Assumes nothing.
-use Prim.Native.Nat.{ℕ, zero, suc, _+_, _-_, _*_, _<_}
-use mathlib.Core.List.{List, [], _∷_, _++_, map, flatten}
-use mathlib.Core.Logic.{inl, inr}
-use mathlib.Core.Path.{_≡_, ap, _∙_}
-use native.Mathlib.Omega.{arith}
-use lib.ListN.{length, List·getD-append}
-use lib.Seq.{getD-append-add}
+use Prim.Native.Nat.{ℕ, _+_, _*_, _<_}
+use mathlib.Core.List.{List, [], _∷_, _++_, flatten}
 use Rattle.board.specs.declared.BrdInfoFields.{BrdInfoFields}
 use Rattle.board_layout.specs.Places.{mapRecordSize}
 use Rattle.board_rules.specs.Rules.{headerLength}
-use Rattle.board_writer.specs.Image.{headerOf, mapOf, boardOf, laidRecord, laidRecords, mapLength, imageLength, body, laid}
+use Rattle.board_writer.specs.Image.{headerOf, laidRecord, laidRecords, mapLength, imageLength, body, laid}
 use Rattle.board_writer.specs.Parts.{Parts, givenSize, recordCount}
 use Rattle.board_writer.specs.declared.MapFields.{MapFields}
-use Rattle.board_writer.specs.laws.Pieces.{flat-more}
+use Rattle.board_writer.specs.laws.Bytes.{Field, number, one, some, octets-append, octets-flat, octets-fields}
+use Rattle.board_writer.specs.laws.Length.{headerBlock, mapBlock, recordBlock, recordsBlock, boardBlock}
 use Rattle.chain.specs.Fill.{tab}
-use Rattle.chain.specs.laws.Below.{below}
 use Rattle.kinds.specs.Signatures.{eeprom, eeprMap, brdInfo}
 use Rattle.octets.specs.Bytes.{byte, Octets, run, spelled}
 use Rattle.octets.specs.Runs.{sixteenAt, sixteenBytes}
-use Rattle.octets.specs.laws.Bytes.{run-octets, all-octets}
+use Rattle.octets.specs.laws.Bytes.{run-octets}
 
 -- the numbers that are given as bytes are below 256. (Every call meets this by the types of its parameters.)
 pub record Given (x : Parts) : Type 0 where
@@ -33,51 +28,9 @@ pub record Given (x : Parts) : Type 0 where
   pub boardType : x .board .boardtype < 256
   pub further : Octets (x .further)
 
--- ---- bytes, end to end
-pub octets-append : (a b : List ℕ) → Octets a → Octets b → Octets (a ++ b)
-octets-append a b h k p =
-    elim (below p (length a)) [
-      | inl l ↦ omega (arith, List·getD-append a b 0 p l, h p)
-      | inr l ↦
-          let e : p ≡ length a + (p - length a) = omega arith in
-          omega (arith, ap (byte (a ++ b)) e ∙ getD-append-add a b (p - length a) 0, k (p - length a))
-    ]
-
-octets-flat : (f : ℕ → List ℕ) (n : ℕ) → ((k : ℕ) → Octets (f k)) → Octets (flatten (tab f n))
-unfolding tab flatten
-octets-flat f zero h = λ p. omega arith
-octets-flat f (suc n) h = rw flat-more (octets-append (flatten (tab f n)) (f n) (octets-flat f n h) (h n))
-
--- a number spelled
-octets-spelled : (n m : ℕ) → Octets (spelled n m)
-unfolding spelled
-octets-spelled zero m p = omega arith
-octets-spelled (suc n) m zero = omega arith
-octets-spelled (suc n) m (suc p) = octets-spelled n _ p
-
--- ---- a block by its fields, each with why it is bytes
-record Field : Type 0 where
-  bytes : List ℕ
-  good : Octets bytes
-
--- a number of n bytes, one byte, and bytes that are given
-abbrev number : ℕ → ℕ → Field
-number n m = record { bytes = spelled n m; good = octets-spelled n m }
-
-abbrev one : (b : ℕ) → b < 256 → Field
-one b h = record { bytes = b ∷ []; good = all-octets (b ∷ []) (h, tt) }
-
-abbrev some : (l : List ℕ) → Octets l → Field
-some l h = record { bytes = l; good = h }
-
 -- the fields of a head
 abbrev headFields : ℕ → ℕ → List Field
 headFields signature size = number 8 signature ∷ number 2 1 ∷ number 2 0 ∷ number 4 size ∷ []
-
-octets-fields : (l : List Field) → Octets (flatten (map (λ f. f .bytes) l))
-unfolding flatten
-octets-fields [] = λ p. omega arith
-octets-fields (f ∷ fs) = octets-append (f .bytes) (flatten (map (λ f. f .bytes) fs)) (f .good) (octets-fields fs)
 
 -- ---- the blocks; zeros are 0 spelled
 header-octets : (end check covers version : ℕ) → Octets (headerOf end check covers version)
@@ -89,10 +42,11 @@ header-octets end check covers version =
 pub laid-octets : (x : Parts) (check covers : ℕ) → Octets (body x) → Octets (laid x check covers)
 unfolding laid
 laid-octets x check covers h =
-    octets-append (headerOf (imageLength x) check covers (x .version)) (body x) (header-octets (imageLength x) check covers (x .version)) h
+    octets-append (headerBlock x check covers) (body x) (header-octets (imageLength x) check covers (x .version)) h
 
 module _ (x : Parts) (given : Given x) where
-  map-octets : Octets (mapOf (mapLength x) (x .map))
+  -- the map, up to its records
+  map-octets : Octets (mapBlock x)
   unfolding spelled flatten
   map-octets =
       let m : MapFields = x .map in
@@ -109,7 +63,7 @@ module _ (x : Parts) (given : Given x) where
       ∷ []))
 
   -- a record's label and address are bytes of the run
-  record-octets : (k : ℕ) → Octets (laidRecord (x .records) (x .map .blklength) k)
+  record-octets : (k : ℕ) → Octets (recordBlock x k)
   unfolding laidRecord sixteenAt spelled flatten tab
   record-octets k =
       let r : List ℕ = x .records in
@@ -122,7 +76,8 @@ module _ (x : Parts) (given : Given x) where
       ∷ number 7 0
       ∷ [])
 
-  board-octets : Octets (boardOf (x .board))
+  -- the board
+  board-octets : Octets (boardBlock x)
   unfolding spelled flatten
   board-octets =
       let b : BrdInfoFields = x .board in
@@ -142,10 +97,7 @@ module _ (x : Parts) (given : Given x) where
   pub body-octets : Octets (body x)
   unfolding body laidRecords
   body-octets =
-      let map : List ℕ = mapOf (mapLength x) (x .map) in
-      let records : List ℕ = laidRecords (x .records) (x .map .blklength) (recordCount x) in
-      let board : List ℕ = boardOf (x .board) in
-      octets-append (map ++ records ++ board) (x .further)
-      (octets-append (map ++ records) board
-      (octets-append map records map-octets (octets-flat (laidRecord (x .records) (x .map .blklength)) (recordCount x) record-octets)) board-octets)
+      octets-append (mapBlock x ++ recordsBlock x ++ boardBlock x) (x .further)
+      (octets-append (mapBlock x ++ recordsBlock x) (boardBlock x)
+      (octets-append (mapBlock x) (recordsBlock x) map-octets (octets-flat (recordBlock x) (recordCount x) record-octets)) board-octets)
       (given .further)

@@ -1,7 +1,7 @@
 -- What the writer answers, case by case in the order of its checks: 46, then 40, then 41, then what the reader says, then 45. Assumes nothing.
 use Prim.Native.Nat.{ℕ, _%_, _≤_, _<_}
 use mathlib.Core.Bool.{Bool, not}
-use mathlib.Core.List.{List}
+use mathlib.Core.List.{List, [], _∷_}
 use mathlib.Core.Path.{_≡_, ap, _∙_}
 use lib.ListN.{length}
 use borrow.Author.Tests.{lt-ltb, le-ltb, eq-eqb, ne-eqb}
@@ -18,6 +18,7 @@ use Rattle.verdict.specs.declared.Judged.{Judged}
 use Rattle.verdict.specs.declared.Judged.the-variants.{Accepted, Refused}
 use Rattle.verdict.specs.declared.Refusal.{Refusal}
 use Rattle.verdict.specs.declared.WriteAnswer.{WriteAnswer}
+use Rattle.verdict.specs.laws.Accepted.{clear, after}
 
 -- a refusal leaves the buffer as it was
 abbrev refuses : List ℕ → ℕ → ℕ → WriteAnswer × List ℕ
@@ -66,3 +67,13 @@ module _ (x : Parts) (buffer : List ℕ) where
           pub written-image : promSigAt (image x) ≡ Nothing → written x buffer ≡ writtenIf (image x) buffer (Accepted count)
           unfolding reviewed
           written-image d = written-reviewed ∙ rw (e, d)
+
+-- and back: a review that ends well: the reader accepts, and finds no `$PromSig`
+pub reviewed-well : (s : List ℕ) (count : ℕ) → reviewed s ≡ Accepted count → (judged full s ≡ Accepted count) × (promSigAt s ≡ Nothing)
+unfolding reviewed
+reviewed-well s count = go (judged full s)
+  where
+    go : (j : Judged) → unsigned s j ≡ Accepted count → (j ≡ Accepted count) × (promSigAt s ≡ Nothing)
+    go (Accepted m) e =
+        (after ((45, promSigAt s) ∷ []) (Accepted m) count e, clear ((45, promSigAt s) ∷ []) (Accepted m) count e .0)
+    go (Refused r) e = (e, cc)

@@ -11,31 +11,32 @@ use Rattle.board_layout.specs.Places.{VerMajor, VerMinor, Length, headSize, Str
 use Rattle.board_layout.specs.declared.Records.the-variants.{Map}
 use Rattle.board_layout.specs.laws.Layout.{next-round, round-same}
 use Rattle.board_rules.specs.Rules.{headerLength}
-use Rattle.board_writer.specs.Image.{headerOf, mapOf, boardOf, mapLength, imageLength, laid}
+use Rattle.board_writer.specs.Image.{mapLength, imageLength, laid}
 use Rattle.board_writer.specs.Parts.{Parts, recordCount}
 use Rattle.board_writer.specs.laws.Blocks.{header-lies, map-lies, board-lies}
+use Rattle.board_writer.specs.laws.Length.{headerBlock, mapBlock, boardBlock}
 use Rattle.board_writer.specs.laws.Lies.{Lies, le16-in, le32-in, le64-in}
-use Rattle.board_writer.specs.laws.Pieces.{steps-tab}
+use Rattle.board_writer.specs.laws.MapRecords.{record-places}
 use Rattle.chain.specs.Fill.{tab}
 use Rattle.kinds.specs.Signatures.{eeprom, eeprMap, brdInfo}
 use Rattle.octets.specs.Bytes.{spelled, le16, le32, le64}
 use Rattle.octets.specs.laws.Spelled.{little-spelled}
 
--- the head of the structure at p: its signature, VerMajor 1, VerMinor 0 and its Length
-pub record Head (s : List ℕ) (p signature size : ℕ) : Type 0 where
-  pub signed : signatureAt s p ≡ signature
+-- the head of the structure at p: its signature g, VerMajor 1, VerMinor 0 and its Length n
+pub record Head (s : List ℕ) (p g n : ℕ) : Type 0 where
+  pub signature : signatureAt s p ≡ g
   pub major : majorAt s p ≡ 1
   pub minor : minorAt s p ≡ 0
-  pub long : lengthAt s p ≡ size
+  pub length : lengthAt s p ≡ n
 
 -- a block's head, where the block lies
 head-in : (s : List ℕ) (p : ℕ) (h : List ℕ) (g n : ℕ) → Lies s p h → headSize ≤ length h → Head h 0 g n → Head s p g n
 head-in s p h g n lies size head =
     record {
-      signed = ap (λ (q : ℕ). signatureAt s q) (sym (add-zero p)) ∙ le64-in s p h lies 0 (omega arith) ∙ head .signed;
+      signature = ap (λ (q : ℕ). signatureAt s q) (sym (add-zero p)) ∙ le64-in s p h lies 0 (omega arith) ∙ head .signature;
       major = le16-in s p h lies VerMajor (omega arith) ∙ head .major;
       minor = le16-in s p h lies VerMinor (omega arith) ∙ head .minor;
-      long = le32-in s p h lies Length (omega arith) ∙ head .long;
+      length = le32-in s p h lies Length (omega arith) ∙ head .length;
     }
 
 -- a structure of this Length that ends on a boundary: the next one starts there
@@ -52,49 +53,46 @@ module _ (x : Parts) (check covers : ℕ) (rest : List ℕ) (small : imageLength
   pub header-head : Head s 0 eeprom headerLength
   unfolding spelled le16 le32 le64 tab
   header-head =
-      head-in s 0 (headerOf (imageLength x) check covers (x .version)) eeprom headerLength (header-lies x check covers rest) (omega arith)
-      (record { signed = refl; major = refl; minor = refl; long = refl })
+      head-in s 0 (headerBlock x check covers) eeprom headerLength (header-lies x check covers rest) (omega arith)
+      (record { signature = refl; major = refl; minor = refl; length = refl })
 
   pub map-head : Head s 0x30 eeprMap (mapLength x)
   unfolding spelled le16 le32 le64 tab
   map-head =
-      head-in s 0x30 (mapOf (mapLength x) (x .map)) eeprMap (mapLength x) (map-lies x check covers rest) (omega arith)
-      (record { signed = refl; major = refl; minor = refl; long = little-spelled 4 (mapLength x) (omega arith) })
+      head-in s 0x30 (mapBlock x) eeprMap (mapLength x) (map-lies x check covers rest) (omega arith)
+      (record { signature = refl; major = refl; minor = refl; length = little-spelled 4 (mapLength x) (omega arith) })
 
   pub board-head : Head s (0x30 + mapLength x) brdInfo 0x60
   unfolding spelled le16 le32 le64 tab
   board-head =
-      head-in s (0x30 + mapLength x) (boardOf (x .board)) brdInfo 0x60 (board-lies x check covers rest) (omega arith)
-      (record { signed = refl; major = refl; minor = refl; long = refl })
+      head-in s (0x30 + mapLength x) (boardBlock x) brdInfo 0x60 (board-lies x check covers rest) (omega arith)
+      (record { signature = refl; major = refl; minor = refl; length = refl })
 
   -- ---- the places
   pub struct-len-is : structLen s ≡ imageLength x
   unfolding spelled le32 tab
   struct-len-is =
-      le32-in s 0 (headerOf (imageLength x) check covers (x .version)) (header-lies x check covers rest) StructLen (omega arith)
+      le32-in s 0 (headerBlock x check covers) (header-lies x check covers rest) StructLen (omega arith)
       ∙ little-spelled 4 (imageLength x) (omega arith)
 
   pub map-at : mapAt s ≡ 0x30
   unfolding mapAt
-  map-at = next-is s 0 headerLength (header-head .long) (omega arith) (omega arith)
+  map-at = next-is s 0 headerLength (header-head .length) (omega arith) (omega arith)
 
   pub board-at : boardAt s ≡ 0x30 + mapLength x
   unfolding boardAt
-  board-at = ap (next s) map-at ∙ next-is s 0x30 (mapLength x) (map-head .long) (omega arith) (omega arith)
+  board-at = ap (next s) map-at ∙ next-is s 0x30 (mapLength x) (map-head .length) (omega arith) (omega arith)
 
   pub board-end : endAt s (boardAt s) ≡ 0x90 + mapLength x
   unfolding endAt
-  board-end = ap (endAt s) board-at ∙ omega (arith, board-head .long)
+  board-end = ap (endAt s) board-at ∙ omega (arith, board-head .length)
 
   -- the later structures start where the further bytes do
   pub later-at : laterAt s ≡ 0x90 + mapLength x
   unfolding laterAt
   later-at =
-      ap (next s) board-at ∙ next-is s (0x30 + mapLength x) 0x60 (board-head .long) (omega arith) (omega arith) ∙ omega arith
+      ap (next s) board-at ∙ next-is s (0x30 + mapLength x) 0x60 (board-head .length) (omega arith) (omega arith) ∙ omega arith
 
   -- record k of the map starts at 60h + 20h k
   pub records-at : records Map s (mapAt s) ≡ tab (λ k. 0x60 + k * mapRecordSize) (recordCount x)
-  unfolding records endAt
-  records-at =
-      ap (records Map s) map-at
-      ∙ steps-tab mapRecordSize (omega arith) (recordCount x) 0x60 (endAt s 0x30) (omega (arith, map-head .long))
+  records-at = ap (records Map s) map-at ∙ record-places s 0x30 (recordCount x) (omega (arith, map-head .length))

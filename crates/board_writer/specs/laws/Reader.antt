@@ -17,7 +17,7 @@ use Rattle.board_writer.specs.Parts.{Parts, Fits, recordCount}
 use Rattle.board_writer.specs.Written.{written}
 use Rattle.board_writer.specs.laws.Fields.{mapShown, recordShown, further-read}
 use Rattle.board_writer.specs.laws.Shown.{itemShown, headerShown, header-shown, map-shown, board-shown, record-shown, records-end}
-use Rattle.board_writer.specs.laws.Written.{ReadsBack, written-within, written-front, written-reads-back}
+use Rattle.board_writer.specs.laws.Written.{ReadsBack, Writable, written-exactly, written-front, written-reads-back}
 use Rattle.chain.specs.declared.Found.the-variants.{Nothing}
 use Rattle.kinds.specs.Kinds.{full}
 use Rattle.kinds.specs.Signatures.{eeprom, eeprMap, brdInfo}
@@ -57,9 +57,9 @@ image-answers x rest k count fits most e none =
 pub written-answers : (x : Parts) (buffer : List ℕ) (n : ℕ) → writeSaid (written x buffer .0) ≡ says n → Fits x
     → (m : ℕ) → n ≤ m → m ≤ 65536 → (k : Kinds) → Answers x k (take m (written x buffer .1))
 written-answers x buffer n e fits m h most k =
-    let w = written-within x buffer n e in
+    let w : Writable x buffer n = written-exactly x buffer n .0 e in
     let rest : List ℕ = take (m - n) (drop n buffer) in
     let back : ReadsBack x (image x ++ rest) = subst (ReadsBack x) (written-front x buffer n e m h) (written-reads-back x buffer n e fits m h most) in
     subst (Answers x k) (sym (written-front x buffer n e m h))
-    (image-answers x rest k (back .count) fits (omega (arith, w .1, w .2))
+    (image-answers x rest k (back .count) fits (omega (arith, w .size, w .most))
     (shorter-accepts full k (full-contains k) (image x ++ rest) (back .count) (back .accepted)) (back .unsigned))

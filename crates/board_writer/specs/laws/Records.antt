@@ -1,29 +1,28 @@
 -- The map's records: the run that is read of them has seventeen bytes for each, label and address, so the records that are laid of it are the bytes of the
 -- image. Assumes nothing.
 use Prim.Native.Nat.{ℕ, _+_, _*_, _<_}
-use mathlib.Core.List.{List, map, flatten}
-use mathlib.Core.Path.{_≡_, refl, sym, ap, ap₂, _∙_}
+use mathlib.Core.List.{List, [], flatten, append-nil}
+use mathlib.Core.Path.{_≡_, refl, sym, ap, ap₂, subst, _∙_}
 use native.Mathlib.Omega.{arith}
-use lib.ListN.{length, getD}
-use lib.Seq.{ext-getD}
+use lib.ListN.{length}
 use Rattle.board.specs.Records.{mapRecordAt}
 use Rattle.board_layout.specs.Layout.{mapAt, records, mapCount}
 use Rattle.board_layout.specs.Places.{BlkLength, MapData, MapLabel, Address, mapRecordSize}
 use Rattle.board_layout.specs.declared.Records.the-variants.{Map}
 use Rattle.board_rules.specs.Judged.{judged}
-use Rattle.board_rules.specs.laws.Accepted.{record-count, record-place}
+use Rattle.board_rules.specs.laws.Accepted.{map-head, record-place}
 use Rattle.board_rules.specs.laws.Fields.{GoodMapRecord, map-records, record-offset}
 use Rattle.board_writer.specs.Image.{recordOf, laidRecord, laidRecords}
 use Rattle.board_writer.specs.Parts.{givenSize}
 use Rattle.board_writer.specs.PartsOf.{recordGiven, recordsOf, Rebuildable}
 use Rattle.board_writer.specs.laws.Fixed.{record-run}
-use Rattle.board_writer.specs.laws.Flat.{flat-length, flat-part, records-run, map-tab}
+use Rattle.board_writer.specs.laws.Lies.{Lies, lies-piece, lies-run}
+use Rattle.board_writer.specs.laws.MapRecords.{run-records}
+use Rattle.board_writer.specs.laws.Pieces.{flat-length, flat-runs}
 use Rattle.board_writer.specs.laws.Reserved.{record-zero}
 use Rattle.chain.specs.Fill.{tab}
-use Rattle.chain.specs.declared.Found.{Found}
-use Rattle.chain.specs.declared.Found.the-variants.{At}
-use Rattle.chain.specs.laws.Fill.{length-tab, getD-tab, tab-agree}
-use Rattle.chain.specs.laws.Nth.{nth-below, nth-all}
+use Rattle.chain.specs.laws.Fill.{tab-agree}
+use Rattle.chain.specs.laws.Nth.{nth-all}
 use Rattle.kinds.specs.Kinds.{full}
 use Rattle.octets.specs.Bytes.{byte, Octets, run, le32}
 use Rattle.octets.specs.Runs.{sixteen, sixteenAt}
@@ -44,29 +43,23 @@ module _ (s : List ℕ) (n : ℕ) (e : judged full s ≡ Accepted n) where
   given-size : (k : ℕ) → length (given k) ≡ givenSize
   given-size k = refl
 
-  -- the records start at these places
-  places : records Map s (mapAt s) ≡ tab place count
-  places =
-      let l : List ℕ = records Map s (mapAt s) in
-      ext-getD 0 l (tab place count) (record-count full s n e ∙ sym (length-tab place count))
-      (λ k h.
-      let i : k < count = omega (arith, record-count full s n e) in
-      let d : _≡_ {A = Found} (At (getD l k 0)) (At (place k)) = sym (nth-below l k h) ∙ record-place full s n e k i in
-      let a : getD l k 0 ≡ place k = cc in
-      a ∙ sym (getD-tab place count k 0 i))
-
-  -- so the run that is read is their seventeens
+  -- the run that is read is their seventeens, end to end
   read : recordsOf s ≡ flatten (tab given count)
-  unfolding recordsOf
-  read =
-      ap (λ (l : List ℕ). flatten (map (λ r. recordGiven (mapRecordAt s r)) l)) places
-      ∙ ap flatten (map-tab (λ r. recordGiven (mapRecordAt s r)) place count)
+  read = run-records s (mapAt s) count (map-head full s n e .1) refl
 
-  pub records-length : length (recordsOf s) ≡ givenSize * count
-  records-length = ap length read ∙ flat-length given given-size count
+  -- so many bytes
+  pub records-length : length (recordsOf s) ≡ count * givenSize
+  records-length = ap length read ∙ flat-length given givenSize count given-size
 
+  -- so those of record k lie there
+  lies : (k : ℕ) → k < count → Lies (recordsOf s) (k * givenSize) (given k)
+  lies k h =
+      subst (λ (l : List ℕ). Lies l (k * givenSize) (given k)) (append-nil (flatten (tab given count)) ∙ sym read)
+      (lies-piece given givenSize count k [] given-size h)
+
+  -- as a run
   seventeen : (k : ℕ) → k < count → run (recordsOf s) (givenSize * k) givenSize ≡ given k
-  seventeen k h = ap (λ (l : List ℕ). run l (givenSize * k) givenSize) read ∙ flat-part given given-size count k h
+  seventeen k h = ap (λ (p : ℕ). run (recordsOf s) p givenSize) (omega arith) ∙ lies-run (recordsOf s) (k * givenSize) (given k) (lies k h)
 
   -- label and address of record k
   label-read : (k : ℕ) → k < count → sixteenAt (recordsOf s) (givenSize * k) ≡ sixteenAt s (place k + MapLabel)
@@ -79,6 +72,7 @@ module _ (s : List ℕ) (n : ℕ) (e : judged full s ≡ Accepted n) where
 
   -- ---- the records laid are those of the image
   module _ (r : Rebuildable s) (octets : Octets s) where
+    -- each, and all of them
     laid-record : (k : ℕ) → k < count → laidRecord (recordsOf s) (le32 s (mapAt s + BlkLength)) k ≡ run s (place k) mapRecordSize
     unfolding laidRecord
     laid-record k h =
@@ -87,9 +81,9 @@ module _ (s : List ℕ) (n : ℕ) (e : judged full s ≡ Accepted n) where
         ap₂ (λ (l : Sixteen) (a : ℕ). recordOf l offset a) (label-read k h) (address-read k h)
         ∙ record-run s octets (place k) offset (good .size) (record-offset full s n e k h) (record-zero s n e r k h)
 
-    pub laid-records : laidRecords (recordsOf s) (le32 s (mapAt s + BlkLength)) count ≡ run s (mapAt s + MapData) (mapRecordSize * count)
+    pub laid-records : laidRecords (recordsOf s) (le32 s (mapAt s + BlkLength)) count ≡ run s (mapAt s + MapData) (count * mapRecordSize)
     unfolding laidRecords
     laid-records =
         ap flatten
         (tab-agree (laidRecord (recordsOf s) (le32 s (mapAt s + BlkLength))) (λ k. run s (place k) mapRecordSize) count laid-record)
-        ∙ records-run s (mapAt s + MapData) count
+        ∙ flat-runs s mapRecordSize (mapAt s + MapData) count

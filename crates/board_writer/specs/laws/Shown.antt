@@ -58,13 +58,13 @@ item-known : (k : Kinds) (s : List ℕ) (p g n : ℕ) (a : Shape) (f : Fields) �
 unfolding itemAt shapeAt
 item-known k s p g n a f head shape on fields i =
     record {
-      signature = head .signed i;
+      signature = head .signature i;
       place = p;
-      length = head .long i - headSize;
+      length = head .length i - headSize;
       item =
-          (ap (λ (b : Shape). cond (knows k b) (itemAs s p b) Item.NotKnown) ((λ j. shapeOf (head .signed j) (head .major j)) ∙ shape)
+          (ap (λ (b : Shape). cond (knows k b) (itemAs s p b) Item.NotKnown) ((λ j. shapeOf (head .signature j) (head .major j)) ∙ shape)
           ∙ rw on fields
-          ∙ (λ j. Item.Known (record { major = head .major j; minor = head .minor j; length = head .long j; fields = f }))) i;
+          ∙ (λ j. Item.Known (record { major = head .major j; minor = head .minor j; length = head .length j; fields = f }))) i;
     }
 
 -- the place at a number of a row
@@ -87,6 +87,7 @@ module _ (x : Parts) (fits : Fits x) (check covers : ℕ) (rest : List ℕ) (sma
     covers-all none =
         check-holds k s count e .1 ∙ ap (coveredUpTo (structLen s)) none ∙ struct-len-is x check covers rest small
 
+    -- items 0, 1 and 2
     pub header-shown : promSigAt s ≡ Nothing → itemNumbered k s 0 ≡ ItemAnswer.Shown (itemShown eeprom 0 0x30 (Fields.Eeprom (headerShown x)))
     unfolding nth shapeOf eepromAt
     header-shown none =
@@ -126,12 +127,13 @@ module _ (x : Parts) (fits : Fits x) (check covers : ℕ) (rest : List ℕ) (sma
     part-is : x .map .partsize ≡ recordCount x * x .map .blklength
     unfolding eeprMapAt
     part-is =
-        let n : mapCount s 0x30 ≡ recordCount x = omega (arith, map-head x check covers rest small .long) in
+        let n : mapCount s 0x30 ≡ recordCount x = omega (arith, map-head x check covers rest small .length) in
         sym (λ i. map-read x check covers rest small fits i .partsize)
         ∙ subst (λ (m : ℕ). le32 s (m + PartSize) ≡ mapCount s m * le32 s (m + BlkLength)) (map-at x check covers rest small)
         (map-fields k s count e .part)
         ∙ (λ i. n i * map-read x check covers rest small fits i .blklength)
 
+    -- record i is the one given, and past them there is none
     pub record-shown : (i : ℕ) → i < recordCount x → mapRecordNumbered k s i ≡ MapRecordAnswer.Shown (recordShown x i)
     record-shown i h =
         let place : ℕ → ℕ = λ j. 0x60 + j * mapRecordSize in
