@@ -22,25 +22,25 @@ use Rattle.octets.specs.Runs.{sixteen, sixteenAt}
 abbrev pub blank : ℕ → List ℕ
 blank n = replicate n 0xAA
 
--- PartLabel "rig", PageSize 32, Speed 2; the label's fourth byte, which is its '$', BlkLength, PartSize and Master vary
-abbrev pub mapWith : ℕ → ℕ → ℕ → ℕ → MapFields
-mapWith mark block size master =
+-- PartLabel "rig", BlkLength 4,096, PageSize 32, Master 1, Speed 2; PartSize varies
+abbrev pub mapWith : ℕ → MapFields
+mapWith size =
     record {
-      partlabel = sixteen (0x72 ∷ 0x69 ∷ 0x67 ∷ mark ∷ zeros 12);
-      blklength = block;
+      partlabel = sixteen (0x72 ∷ 0x69 ∷ 0x67 ∷ 0x24 ∷ zeros 12);
+      blklength = 4096;
       pagesize = 32;
       partsize = size;
       busnumber = 0;
-      master = master;
+      master = 1;
       speed = 2;
     }
 
 abbrev pub map13 : MapFields
-map13 = mapWith 0x24 4096 4096 1
+map13 = mapWith 4096
 
 -- ManuName "Gwejlusa", BrdName "rig", BrdSerial "0001"
-abbrev pub boardWith : ℕ → BrdInfoFields
-boardWith type =
+abbrev pub board13 : BrdInfoFields
+board13 =
     record {
       manuname = sixteen (0x47 ∷ 0x77 ∷ 0x65 ∷ 0x6A ∷ 0x6C ∷ 0x75 ∷ 0x73 ∷ 0x61 ∷ zeros 8);
       brdname = sixteen (0x72 ∷ 0x69 ∷ 0x67 ∷ zeros 13);
@@ -48,7 +48,7 @@ boardWith type =
       boardid = 1;
       fabid = 2;
       ecid = 3;
-      boardtype = type;
+      boardtype = 0;
     }
 
 -- a record: "top" and a digit, at an address
@@ -57,7 +57,7 @@ top digit address = 0x74 ∷ 0x6F ∷ 0x70 ∷ digit ∷ 0x24 ∷ zeros 11 ++ (a
 
 -- with case 13's map and board
 abbrev pub given : List ℕ → List ℕ → Parts
-given records further = parts 4 map13 records (boardWith 0) further
+given records further = parts 4 map13 records board13 further
 
 -- case 13: "top1" at address 50h, and nothing further
 abbrev pub record13 : List ℕ
@@ -72,7 +72,7 @@ image13 = example.image 0xE0 0x9714_49AD 0xE0 []
 
 -- two records: Offsets 0 and BlkLength
 abbrev pub parts2 : Parts
-parts2 = parts 4 (mapWith 0x24 4096 8192 1) (record13 ++ top 0x32 0x51) (boardWith 0) []
+parts2 = parts 4 (mapWith 8192) (record13 ++ top 0x32 0x51) board13 []
 
 abbrev map2 : List ℕ
 map2 =

@@ -17,7 +17,7 @@ use Rattle.board_records.specs.Records.{badMapRecord}
 use Rattle.board_rules.specs.Examples as example
 use Rattle.board_rules.specs.Judged.{judged}
 use Rattle.board_rules.specs.Rules.{rule20, rule21, rule22, rule23, rule24, rule25, rule26, rule27, rule28, rule29, rule30, rule31, rule32, rule33, misplaced, gapUsed, expected, outOfOrder, promSigAt, covered, checkOver}
-use Rattle.board_writer.specs.ExampleParts.{blank, mapWith, map13, boardWith, top, given, record13, parts13, image13, parts2, image2, imageLogo, imageSigned}
+use Rattle.board_writer.specs.ExampleParts.{blank, mapWith, board13, top, given, record13, parts13, image13, parts2, image2, imageLogo, imageSigned}
 use Rattle.board_writer.specs.Image.{zeros, laidRecord, laidRecords, body, laid, crcLength, check, image}
 use Rattle.board_writer.specs.Parts.{Parts, parts}
 use Rattle.board_writer.specs.PartsOf.{recordsOf, partsOf}
@@ -74,19 +74,19 @@ early-hold : map outcome early ≡ map foretold early
 unfolding written checked
 early-hold = refl
 
--- what is written, and what the reader or 45 says of the records and the further bytes, at places in the image
+-- what is written, and what the reader or 45 says of it, at places in the image; `written13` below is case 13, with two bytes of the buffer that stay
 abbrev calls : List Call
 calls =
-    -- case 13, into a buffer of its length; `written13` below is into one with two bytes more, which stay as they were
-    call parts13 0xE0 (says 0xE0) image13
-    -- two records
-    ∷ call parts2 0x100 (says 0x100) image2
+    -- two records, with Offsets 0 and BlkLength
+    call parts2 0x100 (says 0x100) image2
     -- no record: 26 at the map
     ∷ call (given [] []) 0xE0 (refused 26 0x30) []
-    -- further bytes: zeros are 23; a `$Logo$` is written, and with a reserved byte set it is 32
+    -- PartSize of two records where one is given: 30 at the field. An address over 7Fh
+    ∷ call (parts 4 (mapWith 8192) record13 board13 []) 0xE0 (refused 30 0x56) []
+    ∷ call (given (top 0x31 0x80) []) 0xE0 (refused 30 0x78) []
+    -- further bytes: zeros are 23 where a structure is due; a `$Logo$` is written
     ∷ call (given record13 (zeros 16)) 0xF0 (refused 23 0xE0) []
     ∷ call (given record13 (example.logo 0x20 0)) 0x100 (says 0x100) imageLogo
-    ∷ call (given record13 (example.logo 0x20 1)) 0x100 (refused 32 0xF0) []
     -- a good `$PromSig` is 45; one of another hash size is 29 at HashType
     ∷ call (given record13 (example.promSig 1)) 0x110 (refused 45 0xE0) []
     ∷ call (given record13 (example.promSig 2)) 0x110 (refused 29 0xF0) []
@@ -95,25 +95,6 @@ calls =
 calls-hold : map outcome calls ≡ map foretold calls
 unfolding written checked reviewed image laid body laidRecords laidRecord crcLength check spelled sixteenAt tab flatten covered checkOver promSigAt first chain visit next round16 le32 le64 crc32 shift shifts step32 judged rule20 rule21 rule22 rule23 rule24 rule25 rule26 rule27 rule28 rule29 rule30 rule31 rule32 rule33 misplaced gapUsed expected outOfOrder endAt mapAt boardAt laterAt shapeAt shapeOf listedShape records badMapHead badBoardHead badPromSigHead badHash badHashOf hashSize badMap badMapField badMapRecord badBoardType badInside reservedUsed badLabel textEnd isLabelText isText nonzero all le16
 calls-hold = refl
-
--- what the reader says of the fields: 30 at the field or the label's bad byte, and 31
-abbrev fields : List Call
-fields =
-    -- PartLabel without its '$'; BlkLength 0; PartSize of two records where one is given; Master 2
-    call (parts 4 (mapWith 0x00 4096 4096 1) record13 (boardWith 0) []) 0xE0 (refused 30 0x43) []
-    ∷ call (parts 4 (mapWith 0x24 0 0 1) record13 (boardWith 0) []) 0xE0 (refused 30 0x50) []
-    ∷ call (parts 4 (mapWith 0x24 4096 8192 1) record13 (boardWith 0) []) 0xE0 (refused 30 0x56) []
-    ∷ call (parts 4 (mapWith 0x24 4096 4096 2) record13 (boardWith 0) []) 0xE0 (refused 30 0x5B) []
-    -- a record's label with a byte that is no character; an address over 7Fh
-    ∷ call (given (top 0x1F 0x50) []) 0xE0 (refused 30 0x63) []
-    ∷ call (given (top 0x31 0x80) []) 0xE0 (refused 30 0x78) []
-    -- BoardType 2
-    ∷ call (parts 4 map13 record13 (boardWith 2) []) 0xE0 (refused 31 0xCC) []
-    ∷ []
-
-fields-hold : map outcome fields ≡ map foretold fields
-unfolding written checked reviewed image laid body laidRecords laidRecord crcLength check spelled sixteenAt tab flatten covered checkOver promSigAt first chain visit next round16 le32 le64 crc32 shift shifts step32 judged rule20 rule21 rule22 rule23 rule24 rule25 rule26 rule27 rule28 rule29 rule30 rule31 misplaced gapUsed expected outOfOrder endAt mapAt boardAt laterAt records badMapHead badBoardHead badMap badMapField badMapRecord badBoardType badLabel textEnd isLabelText isText nonzero le16
-fields-hold = refl
 
 -- ---- case 13: what laws/Written and laws/Rebuilt claim of every image, here by computation alone; and an image with a `$PromSig`, which the reader accepts
 pub record Computed : Type 0 where

@@ -9,6 +9,8 @@ use Rattle.board.specs.declared.BrdInfoFields.{BrdInfoFields}
 use Rattle.board_writer.specs.declared.MapFields.{MapFields}
 use Rattle.chain.specs.First.{when}
 use Rattle.chain.specs.declared.Found.{Found}
+use Rattle.octets.specs.Bytes.{Octets}
+use Rattle.octets.specs.Runs.{sixteenBytes}
 
 pub record Parts : Type 0 where
   pub version : ℕ
@@ -34,7 +36,7 @@ recordCount x = length (x .records) / givenSize
 abbrev pub rule46 : Parts → Found
 rule46 x = when (not (eqb (length (x .records) % givenSize) 0)) 0
 
--- each number fits its field: four bytes, and two for PageSize. (Every call meets this by the types of its parameters.)
+-- each number fits its field: four bytes, and two for PageSize. (The contract of `write` says that those of every call do.)
 pub record Fits (x : Parts) : Type 0 where
   pub version : x .version < 0x1_0000_0000
   pub blkLength : x .map .blklength < 0x1_0000_0000
@@ -43,3 +45,16 @@ pub record Fits (x : Parts) : Type 0 where
   pub boardId : x .board .boardid < 0x1_0000_0000
   pub fabId : x .board .fabid < 0x1_0000_0000
   pub ecId : x .board .ecid < 0x1_0000_0000
+
+-- each byte is one: those of labels, names and runs, and the fields of one byte. (Those of every call are, by the types of its parameters.)
+pub record OfBytes (x : Parts) : Type 0 where
+  pub partLabel : Octets (sixteenBytes (x .map .partlabel))
+  pub busNumber : x .map .busnumber < 256
+  pub master : x .map .master < 256
+  pub speed : x .map .speed < 256
+  pub records : Octets (x .records)
+  pub manuName : Octets (sixteenBytes (x .board .manuname))
+  pub brdName : Octets (sixteenBytes (x .board .brdname))
+  pub brdSerial : Octets (sixteenBytes (x .board .brdserial))
+  pub boardType : x .board .boardtype < 256
+  pub further : Octets (x .further)

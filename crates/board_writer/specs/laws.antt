@@ -20,6 +20,7 @@ pub mod Check
 pub mod Bytes
 pub mod Octets
 pub mod CheckFields
+pub mod Numbers
 -- ---- what is accepted is rebuilt to the last byte
 pub mod Read
 pub mod Fixed

@@ -2,3 +2,4 @@
 pub mod Accepted
 pub mod Refused
 pub mod Agree
+pub mod Numbers

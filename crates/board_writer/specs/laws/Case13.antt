@@ -6,12 +6,15 @@ use native.Mathlib.Omega.{arith}
 use lib.Dec.{ltb}
 use lib.ListN.{take}
 use Rattle.board_layout.specs.Layout.{round16, next, mapAt, boardAt}
-use Rattle.board_rules.specs.Rules.{promSigAt}
+use Rattle.board_rules.specs.Rules.{promSigAt, rule27}
 use Rattle.board_writer.specs.ExampleParts.{blank, parts13, image13}
 use Rattle.board_writer.specs.Examples.{computed}
-use Rattle.board_writer.specs.Parts.{Fits}
+use Rattle.board_writer.specs.Image.{image}
+use Rattle.board_writer.specs.Parts.{Fits, OfBytes}
 use Rattle.board_writer.specs.PartsOf.{partsOf, Rebuildable}
 use Rattle.board_writer.specs.Written.{written}
+use Rattle.board_writer.specs.laws.CheckFields.{check-fields-hold}
+use Rattle.board_writer.specs.laws.Octets.{body-octets}
 use Rattle.board_writer.specs.laws.Reader.{Answers, written-answers}
 use Rattle.board_writer.specs.laws.Rebuilt.{rebuilt}
 use Rattle.board_writer.specs.laws.Written.{ReadsBack, written-reads-back, buffer-reads-back}
@@ -24,6 +27,7 @@ use Rattle.chain.specs.laws.Checks.{kept-under}
 use Rattle.chain.specs.laws.First.{first-all}
 use Rattle.kinds.specs.Kinds.{bare}
 use Rattle.octets.specs.Bytes.{Octets, le16, le32, le64}
+use Rattle.octets.specs.Runs.{sixteenBytes}
 use Rattle.octets.specs.laws.Bytes.{all-octets}
 use Rattle.verdict.specs.Said.{says, writeSaid}
 use Rattle.verdict.specs.declared.WriteAnswer.{WriteAnswer}
@@ -62,15 +66,39 @@ rebuildable13 : Rebuildable image13
 unfolding promSigAt first chain visit next round16 mapAt boardAt tab le16 le32 le64
 rebuildable13 = record { unsigned = refl; header = refl; map = refl; board = refl }
 
--- no element is over 255
+-- a list whose elements are not over 255
+small : (l : List ℕ) → first (λ b. when (ltb 255 b) b) l ≡ Nothing → Octets l
+small l e =
+    all-octets l
+    (all-map (λ b. when (ltb 255 b) b ≡ Nothing) (λ b. b < 256) (λ b h. omega (arith, kept-under 255 b b h)) l
+    (first-all (λ b. when (ltb 255 b) b) l e))
+
 octets13 : Octets image13
 unfolding first
-octets13 =
-    all-octets image13
-    (all-map (λ b. when (ltb 255 b) b ≡ Nothing) (λ b. b < 256) (λ b h. omega (arith, kept-under 255 b b h)) image13
-    (first-all (λ b. when (ltb 255 b) b) image13 refl))
+octets13 = small image13 refl
 
 -- sixteen bytes of the buffer stay
 rebuilt13 : (writeSaid (written (partsOf image13) (blank 0xF0) .0) ≡ says 0xE0) × (written (partsOf image13) (blank 0xF0) .1 ≡ image13 ++ blank 0x10)
 unfolding le32 tab
 rebuilt13 = rebuilt image13 3 (computed .accepted13) rebuildable13 octets13 (blank 0xF0) (omega arith)
+
+-- ---- the check fields hold
+-- each byte is one
+given13 : OfBytes parts13
+unfolding first
+given13 =
+    record {
+      partLabel = small (sixteenBytes (parts13 .map .partlabel)) refl;
+      busNumber = omega arith;
+      master = omega arith;
+      speed = omega arith;
+      records = small (parts13 .records) refl;
+      manuName = small (sixteenBytes (parts13 .board .manuname)) refl;
+      brdName = small (sixteenBytes (parts13 .board .brdname)) refl;
+      brdSerial = small (sixteenBytes (parts13 .board .brdserial)) refl;
+      boardType = omega arith;
+      further = small (parts13 .further) refl;
+    }
+
+check13 : rule27 (image parts13) ≡ Nothing
+check13 = check-fields-hold parts13 (omega arith) (body-octets parts13 given13)

@@ -1,11 +1,11 @@
 -- An image is made of bytes if what is given is: each block is numbers, spelled in bytes, and bytes given. Assumes nothing.
-use Prim.Native.Nat.{ℕ, _+_, _*_, _<_}
+use Prim.Native.Nat.{ℕ, _+_, _*_}
 use mathlib.Core.List.{List, [], _∷_, _++_, flatten}
 use Rattle.board.specs.declared.BrdInfoFields.{BrdInfoFields}
 use Rattle.board_layout.specs.Places.{mapRecordSize}
 use Rattle.board_rules.specs.Rules.{headerLength}
 use Rattle.board_writer.specs.Image.{headerOf, laidRecord, laidRecords, mapLength, imageLength, body, laid}
-use Rattle.board_writer.specs.Parts.{Parts, givenSize, recordCount}
+use Rattle.board_writer.specs.Parts.{Parts, givenSize, recordCount, OfBytes}
 use Rattle.board_writer.specs.declared.MapFields.{MapFields}
 use Rattle.board_writer.specs.laws.Bytes.{Field, number, one, some, octets-append, octets-flat, octets-fields}
 use Rattle.board_writer.specs.laws.Length.{headerBlock, mapBlock, recordBlock, recordsBlock, boardBlock}
@@ -14,19 +14,6 @@ use Rattle.kinds.specs.Signatures.{eeprom, eeprMap, brdInfo}
 use Rattle.octets.specs.Bytes.{byte, Octets, run, spelled}
 use Rattle.octets.specs.Runs.{sixteenAt, sixteenBytes}
 use Rattle.octets.specs.laws.Bytes.{run-octets}
-
--- the numbers that are given as bytes are below 256. (Every call meets this by the types of its parameters.)
-pub record Given (x : Parts) : Type 0 where
-  pub partLabel : Octets (sixteenBytes (x .map .partlabel))
-  pub busNumber : x .map .busnumber < 256
-  pub master : x .map .master < 256
-  pub speed : x .map .speed < 256
-  pub records : Octets (x .records)
-  pub manuName : Octets (sixteenBytes (x .board .manuname))
-  pub brdName : Octets (sixteenBytes (x .board .brdname))
-  pub brdSerial : Octets (sixteenBytes (x .board .brdserial))
-  pub boardType : x .board .boardtype < 256
-  pub further : Octets (x .further)
 
 -- the fields of a head
 abbrev headFields : ℕ → ℕ → List Field
@@ -44,7 +31,7 @@ unfolding laid
 laid-octets x check covers h =
     octets-append (headerBlock x check covers) (body x) (header-octets (imageLength x) check covers (x .version)) h
 
-module _ (x : Parts) (given : Given x) where
+module _ (x : Parts) (given : OfBytes x) where
   -- the map, up to its records
   map-octets : Octets (mapBlock x)
   unfolding spelled flatten

@@ -2,7 +2,7 @@
 -- items are the writer's own work and the pool comes last. Assumes nothing.
 use Prim.Native.Nat.{ℕ, _≤_}
 use mathlib.Core.Bool.{Bool, true, false, not, _&&_}
-use mathlib.Core.List.{List, [], _∷_, _++_, map, append-nil, List·Memᴰ, List·Memᴰ·head, List·Memᴰ·tail}
+use mathlib.Core.List.{List, [], _∷_, map, append-nil, List·Memᴰ}
 use mathlib.Core.Path.{_≡_, refl, sym, ap, _∙_}
 use native.Mathlib.Omega.{arith}
 use lib.Dec.{ltb}
@@ -10,8 +10,7 @@ use lib.ListN.{length, take}
 use lib.Seq.{take-at, getD-at}
 use borrow.Author.Tests.{le-ltb, eq-eqb}
 use Rattle.chain.specs.First.{when}
-use Rattle.chain.specs.declared.Found.{Found}
-use Rattle.chain.specs.declared.Found.the-variants.{At, Nothing}
+use Rattle.chain.specs.declared.Found.the-variants.{Nothing}
 use Rattle.chain.specs.laws.All.{all-map}
 use Rattle.chain.specs.laws.First.{first-none}
 use Rattle.crc.specs.Crc8.{crc8}
@@ -29,11 +28,7 @@ use Rattle.tiny_writer.specs.Written.{writerRules, checked, written}
 use Rattle.tiny_writer.specs.laws.Image.{items-cut, image-length, image-items, run-other}
 use Rattle.tiny_writer.specs.laws.Last.{pool-after, ReachesEnd, last-reaches}
 use Rattle.verdict.specs.Said.{refused, writeSaid}
-use Rattle.verdict.specs.Verdict.{refuse, answer}
-use Rattle.verdict.specs.Written.{writtenIf}
-use Rattle.verdict.specs.declared.Judged.{Judged}
-use Rattle.verdict.specs.declared.Judged.the-variants.{Accepted}
-use Rattle.verdict.specs.laws.Accepted.{Clear}
+use Rattle.verdict.specs.laws.Numbers.{Refuses, table-number, rules-number}
 
 -- rules 1 to 6 and rule 8 are not broken
 pub record WellFormed (s : List ℕ) : Type 0 where
@@ -103,28 +98,12 @@ image-well-formed x good =
     }
 
 -- ---- the number of a refusal
-module _ (bytes buffer : List ℕ) (n p : ℕ) where
-  abbrev Refuses : Judged → Type 0
-  Refuses j = writeSaid (writtenIf bytes buffer j .0) ≡ refused n p
-
-  -- it is one of a table's, or what comes after the table refuses with it
-  table-number : (l : List (ℕ × Found)) (j : Judged) (ms : List ℕ) → (Clear l → Refuses j → List·Memᴰ n ms)
-      → Refuses (answer l j) → List·Memᴰ n (map (λ r. r .0) l ++ ms)
-  table-number [] j ms after e = after tt e
-  table-number (r ∷ rs) j ms after e = go (r .1) e (λ d. table-number rs j ms (λ c. after (d, c)))
-    where
-      go : (f : Found) → Refuses (refuse (r .0) f (answer rs j)) → (f ≡ Nothing → Refuses (answer rs j) → List·Memᴰ n (map (λ s. s .0) rs ++ ms))
-          → List·Memᴰ n (r .0 ∷ (map (λ s. s .0) rs ++ ms))
-      go (At q) e later = let k : n ≡ r .0 = cc in List·Memᴰ·head k
-      go Nothing e later = List·Memᴰ·tail (later refl e)
-
-  -- what the reader may say of an image that is well-formed
-  reader-number : WellFormed bytes → Refuses (judged full bytes) → List·Memᴰ n (7 ∷ 9 ∷ 10 ∷ 11 ∷ [])
-  unfolding judged
-  reader-number w e =
-      table-number ((7, rule7 bytes) ∷ (9, rule9 full bytes) ∷ (10, rule10 full bytes) ∷ (11, rule11 full bytes) ∷ [])
-      (Accepted (length (items bytes))) [] (λ _ k. let z : _≡_ {A = ℕ} 0 1 = cc in absurd (omega arith))
-      (rw (w .one, w .two, w .three, w .four, w .five, w .six, w .eight) at e)
+-- what the reader may say of an image that is well-formed
+reader-number : (bytes buffer : List ℕ) (n p : ℕ) → WellFormed bytes → Refuses bytes buffer n p (judged full bytes) → List·Memᴰ n (7 ∷ 9 ∷ 10 ∷ 11 ∷ [])
+unfolding judged
+reader-number bytes buffer n p w e =
+    rules-number bytes buffer n p ((7, rule7 bytes) ∷ (9, rule9 full bytes) ∷ (10, rule10 full bytes) ∷ (11, rule11 full bytes) ∷ []) (length (items bytes))
+    (rw (w .one, w .two, w .three, w .four, w .five, w .six, w .eight) at e)
 
 -- so a refusal of the writer has one of these numbers
 pub refused-numbers : (x : Parts) (buffer : List ℕ) (n p : ℕ) → writeSaid (written x buffer .0) ≡ refused n p
