@@ -1,7 +1,5 @@
 -- What is proved of the definitions. Assumes nothing.
--- ---- pieces end to end, blocks where they lie, and the records of a map
-pub mod Pieces
-pub mod Lies
+-- ---- the records of a map
 pub mod MapRecords
 -- ---- what is written reads back
 pub mod Length
@@ -17,7 +15,6 @@ pub mod Shown
 pub mod Reader
 -- ---- the check fields of each image that is made are right
 pub mod Check
-pub mod Bytes
 pub mod Octets
 pub mod CheckFields
 pub mod Numbers

@@ -9,3 +9,6 @@ pub mod LabelBad
 pub mod Same
 pub mod Cut
 pub mod Put
+pub mod Pieces
+pub mod Lies
+pub mod Octets

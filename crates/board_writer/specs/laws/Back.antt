@@ -13,9 +13,9 @@ use Rattle.board_writer.specs.PartsOf.{mapGiven, recordGiven, recordsOf,
 use Rattle.board_writer.specs.laws.Blocks.{record-lies}
 use Rattle.board_writer.specs.laws.Fields.{version-read, map-read, board-read, further-read}
 use Rattle.board_writer.specs.laws.Length.{recordBlock}
-use Rattle.board_writer.specs.laws.Lies.{Lies, sixteen-in}
+use Rattle.octets.specs.laws.Lies.{Lies, sixteen-in}
 use Rattle.board_writer.specs.laws.MapRecords.{run-records}
-use Rattle.board_writer.specs.laws.Pieces.{flat-runs}
+use Rattle.octets.specs.laws.Pieces.{flat-runs}
 use Rattle.board_writer.specs.laws.Places.{map-head, struct-len-is, map-at, board-at, board-end}
 use Rattle.chain.specs.Fill.{tab}
 use Rattle.chain.specs.declared.Found.the-variants.{Nothing}

@@ -8,7 +8,7 @@ use Rattle.board_layout.specs.Places.{mapRecordSize}
 use Rattle.board_writer.specs.Image.{laidRecords, mapLength, imageLength, body, laid}
 use Rattle.board_writer.specs.Parts.{Parts, recordCount}
 use Rattle.board_writer.specs.laws.Length.{headerBlock, mapBlock, recordBlock, recordsBlock, boardBlock, header-length, map-length, record-length, records-length, board-length}
-use Rattle.board_writer.specs.laws.Lies.{Lies, lies-front, lies-after, lies-piece}
+use Rattle.octets.specs.laws.Lies.{Lies, lies-front, lies-after, lies-piece}
 
 module _ (x : Parts) (check covers : ℕ) (rest : List ℕ) where
   -- from the board on, from the records on, and from the map on

@@ -11,7 +11,7 @@ use Rattle.board_layout.specs.Places.{mapRecordSize}
 use Rattle.board_writer.specs.Image.{mapOf, boardOf, laidRecord, laidRecords, mapLength, imageLength, body}
 use Rattle.board_writer.specs.Parts.{Parts, recordCount}
 use Rattle.board_writer.specs.laws.Length.{record-length}
-use Rattle.board_writer.specs.laws.Pieces.{flat-more}
+use Rattle.octets.specs.laws.Pieces.{flat-more}
 use Rattle.chain.specs.Fill.{tab}
 use Rattle.octets.specs.Bytes.{spelled}
 use Rattle.octets.specs.Put.{put, Holds}

@@ -13,7 +13,7 @@ use Rattle.board_rules.specs.Rules.{promSigAt, coveredUpTo, covered, checkOver,
 use Rattle.board_rules.specs.laws.Order.{prom-sig-below}
 use Rattle.board_writer.specs.Image.{imageLength, body, laid, crcLength, check, image}
 use Rattle.board_writer.specs.Parts.{Parts}
-use Rattle.board_writer.specs.laws.Bytes.{octets-append}
+use Rattle.octets.specs.laws.Octets.{octets-append}
 use Rattle.board_writer.specs.laws.Check.{covered-laid, check-laid}
 use Rattle.board_writer.specs.laws.Fields.{check-read, covers-read}
 use Rattle.board_writer.specs.laws.Octets.{laid-octets}

@@ -15,7 +15,7 @@ use Rattle.board_writer.specs.Image.{laidRecord, mapLength, imageLength,
 use Rattle.board_writer.specs.Parts.{Parts, Fits, givenSize, recordCount}
 use Rattle.board_writer.specs.laws.Blocks.{header-lies, map-lies, record-lies, board-lies, further-lies}
 use Rattle.board_writer.specs.laws.Length.{headerBlock, mapBlock, recordBlock, boardBlock}
-use Rattle.board_writer.specs.laws.Lies.{Lies, lies-run, le16-in, le32-in, sixteen-in}
+use Rattle.octets.specs.laws.Lies.{Lies, lies-run, le16-in, le32-in, sixteen-in}
 use Rattle.board_writer.specs.laws.Places.{map-head}
 use Rattle.chain.specs.Fill.{tab}
 use Rattle.octets.specs.Bytes.{byte, run, spelled, le16, le32}

@@ -10,7 +10,7 @@ use Rattle.board_rules.specs.Rules.{headerLength}
 use Rattle.board_writer.specs.Image.{headerOf, mapOf, boardOf, laidRecord, laidRecords, mapLength, imageLength, body, laid, crcLength, check, image}
 use Rattle.board_writer.specs.Parts.{Parts, recordCount}
 use Rattle.board_writer.specs.declared.MapFields.{MapFields}
-use Rattle.board_writer.specs.laws.Pieces.{flat-length}
+use Rattle.octets.specs.laws.Pieces.{flat-length}
 use Rattle.octets.specs.Bytes.{spelled}
 
 -- ---- the blocks of the parts

@@ -8,7 +8,7 @@ use Rattle.board_layout.specs.Layout.{lengthAt, endAt, mapAt, records}
 use Rattle.board_layout.specs.Places.{MapData, mapRecordSize}
 use Rattle.board_layout.specs.declared.Records.the-variants.{Map}
 use Rattle.board_writer.specs.PartsOf.{recordGiven, recordsOf}
-use Rattle.board_writer.specs.laws.Pieces.{map-tab, steps-tab}
+use Rattle.octets.specs.laws.Pieces.{map-tab, steps-tab}
 use Rattle.chain.specs.Fill.{tab}
 
 module _ (s : List ℕ) (m n : ℕ) (long : lengthAt s m ≡ MapData + n * mapRecordSize) where

@@ -7,7 +7,7 @@ use Rattle.board_rules.specs.Rules.{headerLength}
 use Rattle.board_writer.specs.Image.{headerOf, laidRecord, laidRecords, mapLength, imageLength, body, laid}
 use Rattle.board_writer.specs.Parts.{Parts, givenSize, recordCount, OfBytes}
 use Rattle.board_writer.specs.declared.MapFields.{MapFields}
-use Rattle.board_writer.specs.laws.Bytes.{Field, number, one, some, octets-append, octets-flat, octets-fields}
+use Rattle.octets.specs.laws.Octets.{Field, number, one, some, octets-append, octets-flat, octets-fields}
 use Rattle.board_writer.specs.laws.Length.{headerBlock, mapBlock, recordBlock, recordsBlock, boardBlock}
 use Rattle.chain.specs.Fill.{tab}
 use Rattle.kinds.specs.Signatures.{eeprom, eeprMap, brdInfo}

@@ -15,7 +15,7 @@ use Rattle.board_writer.specs.Image.{mapLength, imageLength, laid}
 use Rattle.board_writer.specs.Parts.{Parts, recordCount}
 use Rattle.board_writer.specs.laws.Blocks.{header-lies, map-lies, board-lies}
 use Rattle.board_writer.specs.laws.Length.{headerBlock, mapBlock, boardBlock}
-use Rattle.board_writer.specs.laws.Lies.{Lies, le16-in, le32-in, le64-in}
+use Rattle.octets.specs.laws.Lies.{Lies, le16-in, le32-in, le64-in}
 use Rattle.board_writer.specs.laws.MapRecords.{record-places}
 use Rattle.chain.specs.Fill.{tab}
 use Rattle.kinds.specs.Signatures.{eeprom, eeprMap, brdInfo}

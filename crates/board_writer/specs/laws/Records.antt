@@ -16,9 +16,9 @@ use Rattle.board_writer.specs.Image.{recordOf, laidRecord, laidRecords}
 use Rattle.board_writer.specs.Parts.{givenSize}
 use Rattle.board_writer.specs.PartsOf.{recordGiven, recordsOf, Rebuildable}
 use Rattle.board_writer.specs.laws.Fixed.{record-run}
-use Rattle.board_writer.specs.laws.Lies.{Lies, lies-piece, lies-run}
+use Rattle.octets.specs.laws.Lies.{Lies, lies-piece, lies-run}
 use Rattle.board_writer.specs.laws.MapRecords.{run-records}
-use Rattle.board_writer.specs.laws.Pieces.{flat-length, flat-runs}
+use Rattle.octets.specs.laws.Pieces.{flat-length, flat-runs}
 use Rattle.board_writer.specs.laws.Reserved.{record-zero}
 use Rattle.chain.specs.Fill.{tab}
 use Rattle.chain.specs.laws.Fill.{tab-agree}

@@ -8,13 +8,13 @@ use native.Mathlib.Nat.{zero-add}
 use native.Mathlib.Omega.{arith}
 use lib.ListN.{length, List·getD-append}
 use lib.Seq.{getD-append-add}
-use Rattle.board_writer.specs.laws.Pieces.{flat-more, flat-length}
+use Rattle.octets.specs.laws.Pieces.{flat-more, flat-length}
 use Rattle.chain.specs.Fill.{tab}
 use Rattle.chain.specs.laws.Below.{below}
 use Rattle.chain.specs.laws.Fill.{tab-agree}
 use Rattle.octets.specs.Bytes.{byte, run, little, le16, le32, le64}
 use Rattle.octets.specs.Runs.{sixteen, sixteenAt}
 use Rattle.octets.specs.laws.Bytes.{run-all}
 
 -- block h lies in s from place p on
 abbrev pub Lies : List ℕ → ℕ → List ℕ → Type 0

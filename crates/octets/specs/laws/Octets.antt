@@ -6,11 +6,11 @@ use mathlib.Core.Path.{_≡_, ap, _∙_}
 use native.Mathlib.Omega.{arith}
 use lib.ListN.{length, List·getD-append}
 use lib.Seq.{getD-append-add}
-use Rattle.board_writer.specs.laws.Pieces.{flat-more}
+use Rattle.octets.specs.laws.Pieces.{flat-more}
 use Rattle.chain.specs.Fill.{tab}
 use Rattle.chain.specs.laws.Below.{below}
 use Rattle.octets.specs.Bytes.{byte, Octets, spelled}
 use Rattle.octets.specs.laws.Bytes.{all-octets}
 
 -- two lists of bytes
 pub octets-append : (a b : List ℕ) → Octets a → Octets b → Octets (a ++ b)
