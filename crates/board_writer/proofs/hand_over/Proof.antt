@@ -36,8 +36,13 @@ write-refused-requires c κs = search needs
 returns-2 : tie.Need-returns-2
 unfolding all reviewed
 returns-2 c =
-    let a = c .before .before .before .before .before .before .before .before .before .before .args in
-    rw (sym (c .before .before .before .before .before .before .before .judge .ensures) ∙ c .before .before .before .before .before .enum-told .given .1, sym (c .before .before .before .before .prom-sig .ensures) ∙ c .before .before .p .given .1)
+    let c2 = c .before .before in
+    let c4 = c2 .before .before in
+    let c5 = c4 .before in
+    let c7 = c5 .before .before in
+    let c10 = c7 .before .before .before in
+    let a = c10 .args in
+    rw (sym (c7 .judge .ensures) ∙ c5 .enum-told .given .1, sym (c4 .prom-sig .ensures) ∙ c2 .p .given .1)
     (ap (λ (w : WriteAnswer). (w, a .buffer .now)) (c .write-refused .ensures))
 
 enum-told-2 : tie.Need-enum-told-2
@@ -52,9 +57,15 @@ same-length c = search needs
 returns-3 : tie.Need-returns-3
 unfolding all reviewed
 returns-3 c =
-    let a = c .before .before .before .before .before .before .before .before .before .before .before .before .args in
-    let after = c .before .before .put-at .ensures ∙ put-first (a .image .now) (a .buffer .now) (c .before .before .before .before .before .before .before .before .before .before .before .before .pre) in
-    rw (sym (c .before .before .before .before .before .before .before .before .before .judge .ensures) ∙ c .before .before .before .before .before .before .before .enum-told .given .1, sym (c .before .before .before .before .before .before .prom-sig .ensures) ∙ c .before .before .before .before .enum-told2 .given .1)
+    let c2 = c .before .before in
+    let c4 = c2 .before .before in
+    let c6 = c4 .before .before in
+    let c7 = c6 .before in
+    let c9 = c7 .before .before in
+    let c12 = c9 .before .before .before in
+    let a = c12 .args in
+    let after = c2 .put-at .ensures ∙ put-first (a .image .now) (a .buffer .now) (c12 .pre) in
+    rw (sym (c9 .judge .ensures) ∙ c7 .enum-told .given .1, sym (c6 .prom-sig .ensures) ∙ c4 .enum-told2 .given .1)
     (ap (λ (l : List ℕ). (WriteAnswer.Length (length (a .image .now)), l)) after)
 
 pub hand-over-spec : {M : Type 1} → statement M

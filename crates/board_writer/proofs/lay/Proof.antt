@@ -33,17 +33,27 @@ cast-covers : tie.Need-cast-covers
 unfolding body
 cast-covers c =
     let a = c .before .before .before .before .before .before .before .before .before .before .before .before .before .before .args in
+    let pre = c .before .before .before .before .before .before .before .before .before .before .before .before .before .before .pre in
+    let first = c .before .before .before .before .before .before .before .before .before .lay-body .ensures in
+    let plain = c .before .before .before .before .before .lay-header .ensures in
     let x = parts (a .version) (a .map) (a .records .now) (a .board) (a .further .now) in
-    let w = length-take-le 0x30 (a .block .now) (omega (arith, c .before .before .before .before .before .before .before .before .before .before .before .before .before .before .pre .2)) in
-    omega (arith, covers-is x (a .end) (c .before .before .before .before .before .before .before .before .before .before .before .before .before .before .pre .0) (c .before .before .before .before .before .before .before .before .before .before .before .before .before .before .pre .1) (take 0x30 (a .block .now)) _ _ w (c .before .before .before .before .before .before .before .before .before .lay-body .ensures) (c .before .before .before .before .before .lay-header .ensures) _ (c .covered-length .ensures), covers-small x (omega (arith, c .before .before .before .before .before .before .before .before .before .before .before .before .before .before .pre .0, c .before .before .before .before .before .before .before .before .before .before .before .before .before .before .pre .1)))
+    let w = length-take-le 0x30 (a .block .now) (omega (arith, pre .2)) in
+    omega (
+      arith,
+      covers-is x (a .end) (pre .0) (pre .1) (take 0x30 (a .block .now)) _ _ w first plain _ (c .covered-length .ensures),
+      covers-small x (omega (arith, pre .0, pre .1)),
+    )
 
 lay-header-requires-2 : tie.Need-lay-header-requires-2
 unfolding body
 lay-header-requires-2 c κs =
     let a = c .before .before .before .before .before .before .before .before .before .before .before .before .before .before .before .args in
+    let pre = c .before .before .before .before .before .before .before .before .before .before .before .before .before .before .before .pre in
+    let first = c .before .before .before .before .before .before .before .before .before .before .lay-body .ensures in
+    let plain = c .before .before .before .before .before .before .lay-header .ensures in
     let x = parts (a .version) (a .map) (a .records .now) (a .board) (a .further .now) in
-    let w = length-take-le 0x30 (a .block .now) (omega (arith, c .before .before .before .before .before .before .before .before .before .before .before .before .before .before .before .pre .2)) in
-    laid-plain x (a .end) (c .before .before .before .before .before .before .before .before .before .before .before .before .before .before .before .pre .0) (c .before .before .before .before .before .before .before .before .before .before .before .before .before .before .before .pre .1) (take 0x30 (a .block .now)) _ _ w (c .before .before .before .before .before .before .before .before .before .before .lay-body .ensures) (c .before .before .before .before .before .before .lay-header .ensures) .long
+    let w = length-take-le 0x30 (a .block .now) (omega (arith, pre .2)) in
+    laid-plain x (a .end) (pre .0) (pre .1) (take 0x30 (a .block .now)) _ _ w first plain .long
 
 sub-check-over : tie.Need-sub-check-over
 sub-check-over c = search needs
@@ -64,9 +74,14 @@ lay-header-requires-3 : tie.Need-lay-header-requires-3
 unfolding body
 lay-header-requires-3 c κs =
     let a = c .before .before .before .before .before .before .before .before .before .before .before .before .before .before .before .before .before .before .before .before .before .before .args in
+    let pre = c .before .before .before .before .before .before .before .before .before .before .before .before .before .before .before .before .before .before .before .before .before .before .pre in
+    let first = c .before .before .before .before .before .before .before .before .before .before .before .before .before .before .before .before .before .lay-body .ensures in
+    let plain = c .before .before .before .before .before .before .before .before .before .before .before .before .before .lay-header .ensures in
+    let covers = c .before .before .before .before .before .before .before .before .covered-length .ensures in
+    let second = c .before .before .before .before .before .before .lay-header2 .ensures in
     let x = parts (a .version) (a .map) (a .records .now) (a .board) (a .further .now) in
-    let w = length-take-le 0x30 (a .block .now) (omega (arith, c .before .before .before .before .before .before .before .before .before .before .before .before .before .before .before .before .before .before .before .before .before .before .pre .2)) in
-    laid-covers x (a .end) (c .before .before .before .before .before .before .before .before .before .before .before .before .before .before .before .before .before .before .before .before .before .before .pre .0) (c .before .before .before .before .before .before .before .before .before .before .before .before .before .before .before .before .before .before .before .before .before .before .pre .1) (take 0x30 (a .block .now)) _ _ w (c .before .before .before .before .before .before .before .before .before .before .before .before .before .before .before .before .before .lay-body .ensures) (c .before .before .before .before .before .before .before .before .before .before .before .before .before .lay-header .ensures) _ (c .before .before .before .before .before .before .before .before .covered-length .ensures) _ (c .before .before .before .before .before .before .lay-header2 .ensures) .long
+    let w = length-take-le 0x30 (a .block .now) (omega (arith, pre .2)) in
+    laid-covers x (a .end) (pre .0) (pre .1) (take 0x30 (a .block .now)) _ _ w first plain _ covers _ second .long
 
 same-length : tie.Need-same-length
 same-length c = search needs
@@ -74,10 +89,24 @@ same-length c = search needs
 returns : tie.Need-returns
 unfolding body
 returns c =
-    let a = c .before .before .before .before .before .before .before .before .before .before .before .before .before .before .before .before .before .before .before .before .before .before .before .before .before .args in
+    let c2 = c .before .before in
+    let c4 = c2 .before .before in
+    let c9 = c4 .before .before .before .before .before in
+    let c11 = c9 .before .before in
+    let c16 = c11 .before .before .before .before .before in
+    let c20 = c16 .before .before .before .before in
+    let c25 = c20 .before .before .before .before .before in
+    let a = c25 .args in
+    let pre = c25 .pre in
+    let first = c20 .lay-body .ensures in
+    let plain = c16 .lay-header .ensures in
+    let covers = c11 .covered-length .ensures in
+    let second = c9 .lay-header2 .ensures in
+    let check = c4 .check-over .ensures in
+    let third = c2 .lay-header3 .ensures in
     let x = parts (a .version) (a .map) (a .records .now) (a .board) (a .further .now) in
-    let w = length-take-le 0x30 (a .block .now) (omega (arith, c .before .before .before .before .before .before .before .before .before .before .before .before .before .before .before .before .before .before .before .before .before .before .before .before .before .pre .2)) in
-    laid-image x (a .end) (c .before .before .before .before .before .before .before .before .before .before .before .before .before .before .before .before .before .before .before .before .before .before .before .before .before .pre .0) (c .before .before .before .before .before .before .before .before .before .before .before .before .before .before .before .before .before .before .before .before .before .before .before .before .before .pre .1) (take 0x30 (a .block .now)) _ _ w (c .before .before .before .before .before .before .before .before .before .before .before .before .before .before .before .before .before .before .before .before .lay-body .ensures) (c .before .before .before .before .before .before .before .before .before .before .before .before .before .before .before .before .lay-header .ensures) _ (c .before .before .before .before .before .before .before .before .before .before .before .covered-length .ensures) _ (c .before .before .before .before .before .before .before .before .before .lay-header2 .ensures) _ _ (c .before .before .before .before .check-over .ensures) (c .before .before .lay-header3 .ensures)
+    let w = length-take-le 0x30 (a .block .now) (omega (arith, pre .2)) in
+    laid-image x (a .end) (pre .0) (pre .1) (take 0x30 (a .block .now)) _ _ w first plain _ covers _ second _ _ check third
 
 pub lay-spec : {M : Type 1} → statement M
 lay-spec =

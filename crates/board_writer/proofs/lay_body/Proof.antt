@@ -27,9 +27,12 @@ put-at-requires c κs = search needs
 
 lay-records-requires : tie.Need-lay-records-requires
 lay-records-requires c κs =
-    let a = c .before .before .before .before .before .before .before .before .before .before .args in
+    let c3 = c .before .before .before in
+    let c6 = c3 .before .before .before in
+    let c10 = c6 .before .before .before .before in
+    let a = c10 .args in
     let x = parts 0 (a .map) (a .records .now) (a .board) (a .further .now) in
-    (omega (arith, c .before .before .before .before .before .before .before .before .before .before .pre .0), holds-map x (a .image .now) (c .before .before .before .before .before .before .before .before .before .before .pre .0) (c .before .before .before .before .before .before .before .before .before .before .pre .1) _ _ (c .before .before .before .before .before .before .map-bytes .ensures) (c .before .before .before .put-at .ensures) .long)
+    (omega (arith, c10 .pre .0), holds-map x (a .image .now) (c10 .pre .0) (c10 .pre .1) _ _ (c6 .map-bytes .ensures) (c3 .put-at .ensures) .long)
 
 add-at : tie.Need-add-at
 add-at c = search needs
@@ -54,10 +57,17 @@ same-length c = search needs
 
 returns : tie.Need-returns
 returns c =
-    let a = c .before .before .before .before .before .before .before .before .before .before .before .before .before .before .before .before .before .before .before .before .before .before .before .args in
+    let c2 = c .before .before in
+    let c6 = c2 .before .before .before .before in
+    let c9 = c6 .before .before .before in
+    let c12 = c9 .before .before .before in
+    let c16 = c12 .before .before .before .before in
+    let c19 = c16 .before .before .before in
+    let c23 = c19 .before .before .before .before in
+    let a = c23 .args in
     let x = parts 0 (a .map) (a .records .now) (a .board) (a .further .now) in
-    holds-body x (a .image .now) (c .before .before .before .before .before .before .before .before .before .before .before .before .before .before .before .before .before .before .before .before .before .before .before .pre .0) (c .before .before .before .before .before .before .before .before .before .before .before .before .before .before .before .before .before .before .before .before .before .before .before .pre .1) _ _ _ _ _ _ _ (c .before .before .before .before .before .before .before .before .before .before .before .before .before .before .before .before .before .before .before .map-bytes .ensures) (c .before .before .before .before .before .before .before .before .before .before .before .before .before .before .before .before .put-at .ensures) (c .before .before .before .before .before .before .before .before .before .before .before .before .lay-records .ensures) refl (c .before .before .before .before .before .before .before .before .before .board-bytes .ensures)
-    (c .before .before .before .before .before .before .put-at2 .ensures) (c .before .before .put-at3 .ensures)
+    holds-body x (a .image .now) (c23 .pre .0) (c23 .pre .1) _ _ _ _ _ _ _ (c19 .map-bytes .ensures) (c16 .put-at .ensures) (c12 .lay-records .ensures) refl (c9 .board-bytes .ensures)
+    (c6 .put-at2 .ensures) (c2 .put-at3 .ensures)
 
 pub lay-body-spec : {M : Type 1} → statement M
 lay-body-spec =

@@ -44,8 +44,17 @@ loop-less c = omega (arith, c .before .before .before .before .before .before .l
 
 loop-again : tie.Need-loop-again Inv-loop μ-loop
 loop-again c =
-    let a = c .before .before .before .before .before .before .before .before .before .before .args in
-    (omega (arith, c .before .before .before .before .before .before .loop-test .taken), laying-turn (a .records .now) (a .block) (take 0x60 (a .image .now)) _ _ _ _ _ (omega arith) (omega (arith, c .before .before .before .before .before .before .before .before .before .before .pre .0, c .before .before .before .before .before .before .loop-test .taken)) (c .before .before .before .before .before .laid-record .ensures) (c .before .before .put-at .ensures) (c .before .before .before .before .before .before .before .loop .inv .1))
+    let c2 = c .before .before in
+    let c5 = c2 .before .before .before in
+    let c6 = c5 .before in
+    let c7 = c6 .before in
+    let c10 = c7 .before .before .before in
+    let a = c10 .args in
+    let more = c6 .loop-test .taken in (
+      omega (arith, more),
+      laying-turn (a .records .now) (a .block) (take 0x60 (a .image .now)) _ _ _ _ _ (omega arith) (omega (arith, c10 .pre .0, more))
+          (c5 .laid-record .ensures) (c2 .put-at .ensures) (c7 .loop .inv .1),
+    )
 
 same-length : tie.Need-same-length Inv-loop μ-loop
 same-length c = search needs
@@ -53,7 +62,8 @@ same-length c = search needs
 returns : tie.Need-returns Inv-loop μ-loop
 returns c =
     let a = c .before .before .before .before .args in
-    laying-done (a .records .now) (a .block) (take 0x60 (a .image .now)) _ _ _ (omega (arith, c .loop-test .left, c .before .loop .inv .0)) (c .before .loop .inv .1)
+    laying-done (a .records .now) (a .block) (take 0x60 (a .image .now)) _ _ _
+    (omega (arith, c .loop-test .left, c .before .loop .inv .0)) (c .before .loop .inv .1)
 
 pub lay-records-spec : {M : Type 1} → statement M
 lay-records-spec =

@@ -20,11 +20,12 @@ write-refused-requires c κs = search needs
 
 returns : tie.Need-returns
 returns c =
-    let a = c .before .before .before .before .before .args in
+    let c5 = c .before .before .before .before .before in
+    let a = c5 .args in
     let x = parts (a .version) (a .map) (a .records .now) (a .board) (a .further .now) in
-    let n = c .before .before .before .before .before .pre .1 in
+    let n = c5 .pre .1 in
     ap (λ (w : WriteAnswer). (w, a .buffer .now)) (c .write-refused .ensures)
-    ∙ sym (written-short x (a .buffer .now) (c .before .before .before .before .before .pre .0) (omega (arith, n, c .before .before .before .before .before .pre .2)) (omega (arith, n, c .before .if1 .taken)))
+    ∙ sym (written-short x (a .buffer .now) (c5 .pre .0) (omega (arith, n, c5 .pre .2)) (omega (arith, n, c .before .if1 .taken)))
 
 slice-aggregate-lay : tie.Need-slice-aggregate-lay
 slice-aggregate-lay c = search needs
@@ -49,11 +50,15 @@ same-length c = search needs
 
 returns-2 : tie.Need-returns-2
 returns-2 c =
-    let a = c .before .before .before .before .before .before .before .before .before .before .before .before .before .args in
+    let c2 = c .before .before in
+    let c7 = c2 .before .before .before .before .before in
+    let c9 = c7 .before .before in
+    let c13 = c9 .before .before .before .before in
+    let a = c13 .args in
     let x = parts (a .version) (a .map) (a .records .now) (a .board) (a .further .now) in
-    let n = c .before .before .before .before .before .before .before .before .before .before .before .before .before .pre .1 in
-    c .before .before .hand-over .ensures ∙ ap (λ (l : List ℕ). writtenIf l (a .buffer .now) (reviewed l)) (held-part _ (image x) (a .end) (a .end) 65536 refl (c .before .before .before .before .before .before .before .lay .ensures))
-    ∙ sym (written-reviewed x (a .buffer .now) (c .before .before .before .before .before .before .before .before .before .before .before .before .before .pre .0) (omega (arith, n, c .before .before .before .before .before .before .before .before .before .before .before .before .before .pre .2)) (omega (arith, n, c .before .before .before .before .before .before .before .before .before .if1 .left)))
+    let n = c13 .pre .1 in
+    c2 .hand-over .ensures ∙ ap (λ (l : List ℕ). writtenIf l (a .buffer .now) (reviewed l)) (held-part _ (image x) (a .end) (a .end) 65536 refl (c7 .lay .ensures))
+    ∙ sym (written-reviewed x (a .buffer .now) (c13 .pre .0) (omega (arith, n, c13 .pre .2)) (omega (arith, n, c9 .if1 .left)))
 
 pub write-fitting-spec : {M : Type 1} → statement M
 write-fitting-spec =

@@ -1,19 +1,18 @@
 -- `structures::board_bytes` meets its contract: each put fills the next field. Assumes nothing.
-use borrow.Author.Needs.{needs}
 use Rattle.board_writer.proofs.structures.board_bytes.Statement.{statement}
 use Rattle.board_writer.proofs.structures.board_bytes.Tie as tie
+use Prim.Native.Nat.{ℕ}
 use Rattle.octets.specs.Bytes.{spelled}
 use Rattle.octets.specs.Put.{put}
 use Rattle.board_writer.specs.laws.Building.{put-known}
-use mathlib.Core.List.{_++_}
+use mathlib.Core.List.{List, _++_}
 use mathlib.Core.Path.{_≡_, refl}
 use Rattle.board_writer.specs.Image.{head, zeros}
 use Rattle.kinds.specs.Signatures.{brdInfo}
 use Rattle.octets.specs.Runs.{sixteenBytes}
 use lib.ListN.{set}
 use mathlib.Core.Path.{ap}
-use mathlib.Core.List.{List}
-use Prim.Native.Nat.{ℕ}
+use borrow.Author.Needs.{needs}
 
 head-bytes-requires : tie.Need-head-bytes-requires
 head-bytes-requires c κs = search needs
@@ -114,15 +113,36 @@ array-write-bytes c = search needs
 returns : tie.Need-returns
 unfolding put spelled
 returns c =
-    let a = c .before .before .before .before .before .before .before .before .before .before .before .before .before .before .before .before .before .before .before .before .before .before .before .before .before .before .before .before .before .before .before .before .before .before .before .before .before .before .args in
+    let c4 = c .before .before .before .before in
+    let c7 = c4 .before .before .before in
+    let c10 = c7 .before .before .before in
+    let c13 = c10 .before .before .before in
+    let c16 = c13 .before .before .before in
+    let c19 = c16 .before .before .before in
+    let c22 = c19 .before .before .before in
+    let c24 = c22 .before .before in
+    let c27 = c24 .before .before .before in
+    let c29 = c27 .before .before in
+    let c32 = c29 .before .before .before in
+    let c34 = c32 .before .before in
+    let c37 = c34 .before .before .before in
+    let c38 = c37 .before in
+    let a = c38 .args in
     let e0 : zeros 96 ≡ zeros 96 = refl in
-    let e1 : _ ≡ head brdInfo 0x60 ++ zeros 80 = put-known 0 (c .before .before .before .before .before .before .before .before .before .before .before .before .before .before .before .before .before .before .before .before .before .before .before .before .before .before .before .before .before .before .before .before .before .before .put-at .ensures) (c .before .before .before .before .before .before .before .before .before .before .before .before .before .before .before .before .before .before .before .before .before .before .before .before .before .before .before .before .before .before .before .before .before .before .before .before .before .head-bytes .ensures) e0 in
-    let e2 : _ ≡ head brdInfo 0x60 ++ sixteenBytes (a .board .manuname) ++ zeros 64 = put-known 0x10 (c .before .before .before .before .before .before .before .before .before .before .before .before .before .before .before .before .before .before .before .before .before .before .before .before .before .before .before .before .before .put-at2 .ensures) (c .before .before .before .before .before .before .before .before .before .before .before .before .before .before .before .before .before .before .before .before .before .before .before .before .before .before .before .before .before .before .before .before .sixteen-bytes .ensures) e1 in
-    let e3 : _ ≡ head brdInfo 0x60 ++ sixteenBytes (a .board .manuname) ++ sixteenBytes (a .board .brdname) ++ zeros 48 = put-known 0x20 (c .before .before .before .before .before .before .before .before .before .before .before .before .before .before .before .before .before .before .before .before .before .before .before .before .put-at3 .ensures) (c .before .before .before .before .before .before .before .before .before .before .before .before .before .before .before .before .before .before .before .before .before .before .before .before .before .before .before .sixteen-bytes2 .ensures) e2 in
-    let e4 : _ ≡ head brdInfo 0x60 ++ sixteenBytes (a .board .manuname) ++ sixteenBytes (a .board .brdname) ++ sixteenBytes (a .board .brdserial) ++ zeros 32 = put-known 0x30 (c .before .before .before .before .before .before .before .before .before .before .before .before .before .before .before .before .before .before .before .put-at4 .ensures) (c .before .before .before .before .before .before .before .before .before .before .before .before .before .before .before .before .before .before .before .before .before .before .sixteen-bytes3 .ensures) e3 in
-    let e5 : _ ≡ head brdInfo 0x60 ++ sixteenBytes (a .board .manuname) ++ sixteenBytes (a .board .brdname) ++ sixteenBytes (a .board .brdserial) ++ spelled 4 (a .board .boardid) ++ zeros 28 = put-known 0x40 (c .before .before .before .before .before .before .before .before .before .before .before .before .before .put-at5 .ensures) (c .before .before .before .before .before .before .before .before .before .before .before .before .before .before .before .before .le32-bytes .ensures) e4 in
-    let e6 : _ ≡ head brdInfo 0x60 ++ sixteenBytes (a .board .manuname) ++ sixteenBytes (a .board .brdname) ++ sixteenBytes (a .board .brdserial) ++ spelled 4 (a .board .boardid) ++ spelled 4 (a .board .fabid) ++ zeros 24 = put-known 0x44 (c .before .before .before .before .before .before .before .put-at6 .ensures) (c .before .before .before .before .before .before .before .before .before .before .le32-bytes2 .ensures) e5 in
-    let e7 : _ ≡ head brdInfo 0x60 ++ sixteenBytes (a .board .manuname) ++ sixteenBytes (a .board .brdname) ++ sixteenBytes (a .board .brdserial) ++ spelled 4 (a .board .boardid) ++ spelled 4 (a .board .fabid) ++ spelled 4 (a .board .ecid) ++ zeros 20 = put-known 0x48 (c .before .put-at7 .ensures) (c .before .before .before .before .le32-bytes3 .ensures) e6 in
+    let f1 : List ℕ = head brdInfo 0x60 in
+    let e1 : _ ≡ f1 ++ zeros 80 = put-known 0 (c34 .put-at .ensures) (c37 .head-bytes .ensures) e0 in
+    let f2 : List ℕ = f1 ++ sixteenBytes (a .board .manuname) in
+    let e2 : _ ≡ f2 ++ zeros 64 = put-known 0x10 (c29 .put-at2 .ensures) (c32 .sixteen-bytes .ensures) e1 in
+    let f3 : List ℕ = f2 ++ sixteenBytes (a .board .brdname) in
+    let e3 : _ ≡ f3 ++ zeros 48 = put-known 0x20 (c24 .put-at3 .ensures) (c27 .sixteen-bytes2 .ensures) e2 in
+    let f4 : List ℕ = f3 ++ sixteenBytes (a .board .brdserial) in
+    let e4 : _ ≡ f4 ++ zeros 32 = put-known 0x30 (c19 .put-at4 .ensures) (c22 .sixteen-bytes3 .ensures) e3 in
+    let f5 : List ℕ = f4 ++ spelled 4 (a .board .boardid) in
+    let e5 : _ ≡ f5 ++ zeros 28 = put-known 0x40 (c13 .put-at5 .ensures) (c16 .le32-bytes .ensures) e4 in
+    let f6 : List ℕ = f5 ++ spelled 4 (a .board .fabid) in
+    let e6 : _ ≡ f6 ++ zeros 24 = put-known 0x44 (c7 .put-at6 .ensures) (c10 .le32-bytes2 .ensures) e5 in
+    let f7 : List ℕ = f6 ++ spelled 4 (a .board .ecid) in
+    let e7 : _ ≡ f7 ++ zeros 20 = put-known 0x48 (c .before .put-at7 .ensures) (c4 .le32-bytes3 .ensures) e6 in
     ap (λ (l : List ℕ). set l 0x4C (a .board .boardtype)) e7
 
 pub board-bytes-spec : {M : Type 1} → statement M

@@ -35,7 +35,10 @@ put-at-requires-2 c κs = search needs
 returns : tie.Need-returns
 unfolding put spelled
 returns c =
-    rw (c .before .put-at2 .ensures, c .before .before .before .before .before .before .put-at .ensures, c .before .before .before .before .le32-bytes .ensures, c .before .before .before .before .before .before .before .before .before .le64-bytes .ensures)
+    let c4 = c .before .before .before .before in
+    let c6 = c4 .before .before in
+    let c9 = c6 .before .before .before in
+    rw (c .before .put-at2 .ensures, c6 .put-at .ensures, c4 .le32-bytes .ensures, c9 .le64-bytes .ensures)
 
 pub head-bytes-spec : {M : Type 1} → statement M
 head-bytes-spec =

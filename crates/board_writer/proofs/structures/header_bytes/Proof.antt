@@ -1,15 +1,16 @@
 -- `structures::header_bytes` meets its contract: each put fills the next field. Assumes nothing.
-use borrow.Author.Needs.{needs}
 use Rattle.board_writer.proofs.structures.header_bytes.Statement.{statement}
 use Rattle.board_writer.proofs.structures.header_bytes.Tie as tie
+use Prim.Native.Nat.{ℕ}
 use Rattle.octets.specs.Bytes.{spelled}
 use Rattle.octets.specs.Put.{put}
+use Rattle.board_writer.specs.laws.Building.{put-known}
+use mathlib.Core.List.{List, _++_}
+use mathlib.Core.Path.{_≡_, refl}
 use Rattle.board_writer.specs.Image.{head, zeros}
 use Rattle.board_rules.specs.Rules.{headerLength}
 use Rattle.kinds.specs.Signatures.{eeprom}
-use mathlib.Core.List.{_++_}
-use mathlib.Core.Path.{_≡_, refl}
-use Rattle.board_writer.specs.laws.Building.{put-known}
+use borrow.Author.Needs.{needs}
 
 head-bytes-requires : tie.Need-head-bytes-requires
 head-bytes-requires c κs = search needs
@@ -74,13 +75,27 @@ put-at-requires-5 c κs = search needs
 returns : tie.Need-returns
 unfolding put spelled
 returns c =
-    let a = c .before .before .before .before .before .before .before .before .before .before .before .before .before .before .before .before .before .before .before .before .before .before .before .before .before .args in
+    let c4 = c .before .before .before .before in
+    let c6 = c4 .before .before in
+    let c9 = c6 .before .before .before in
+    let c11 = c9 .before .before in
+    let c14 = c11 .before .before .before in
+    let c16 = c14 .before .before in
+    let c19 = c16 .before .before .before in
+    let c21 = c19 .before .before in
+    let c24 = c21 .before .before .before in
+    let c25 = c24 .before in
+    let a = c25 .args in
     let e0 : zeros 48 ≡ zeros 48 = refl in
-    let e1 : _ ≡ head eeprom headerLength ++ zeros 32 = put-known 0 (c .before .before .before .before .before .before .before .before .before .before .before .before .before .before .before .before .before .before .before .before .before .put-at .ensures) (c .before .before .before .before .before .before .before .before .before .before .before .before .before .before .before .before .before .before .before .before .before .before .before .before .head-bytes .ensures) e0 in
-    let e2 : _ ≡ head eeprom headerLength ++ spelled 4 (a .end) ++ zeros 28 = put-known 0x10 (c .before .before .before .before .before .before .before .before .before .before .before .before .before .before .before .before .put-at2 .ensures) (c .before .before .before .before .before .before .before .before .before .before .before .before .before .before .before .before .before .before .before .le32-bytes .ensures) e1 in
-    let e3 : _ ≡ head eeprom headerLength ++ spelled 4 (a .end) ++ spelled 4 (a .check) ++ zeros 24 = put-known 0x14 (c .before .before .before .before .before .before .before .before .before .before .before .put-at3 .ensures) (c .before .before .before .before .before .before .before .before .before .before .before .before .before .before .le32-bytes2 .ensures) e2 in
-    let e4 : _ ≡ head eeprom headerLength ++ spelled 4 (a .end) ++ spelled 4 (a .check) ++ spelled 4 (a .covers) ++ zeros 20 = put-known 0x18 (c .before .before .before .before .before .before .put-at4 .ensures) (c .before .before .before .before .before .before .before .before .before .le32-bytes3 .ensures) e3 in
-    put-known 0x1C (c .before .put-at5 .ensures) (c .before .before .before .before .le32-bytes4 .ensures) e4
+    let f1 : List ℕ = head eeprom headerLength in
+    let e1 : _ ≡ f1 ++ zeros 32 = put-known 0 (c21 .put-at .ensures) (c24 .head-bytes .ensures) e0 in
+    let f2 : List ℕ = f1 ++ spelled 4 (a .end) in
+    let e2 : _ ≡ f2 ++ zeros 28 = put-known 0x10 (c16 .put-at2 .ensures) (c19 .le32-bytes .ensures) e1 in
+    let f3 : List ℕ = f2 ++ spelled 4 (a .check) in
+    let e3 : _ ≡ f3 ++ zeros 24 = put-known 0x14 (c11 .put-at3 .ensures) (c14 .le32-bytes2 .ensures) e2 in
+    let f4 : List ℕ = f3 ++ spelled 4 (a .covers) in
+    let e4 : _ ≡ f4 ++ zeros 20 = put-known 0x18 (c6 .put-at4 .ensures) (c9 .le32-bytes3 .ensures) e3 in
+    put-known 0x1C (c .before .put-at5 .ensures) (c4 .le32-bytes4 .ensures) e4
 
 pub header-bytes-spec : {M : Type 1} → statement M
 header-bytes-spec =

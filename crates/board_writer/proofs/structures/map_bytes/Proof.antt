@@ -1,19 +1,18 @@
 -- `structures::map_bytes` meets its contract: each put fills the next field. Assumes nothing.
-use borrow.Author.Needs.{needs}
 use Rattle.board_writer.proofs.structures.map_bytes.Statement.{statement}
 use Rattle.board_writer.proofs.structures.map_bytes.Tie as tie
+use Prim.Native.Nat.{ℕ}
 use Rattle.octets.specs.Bytes.{spelled}
 use Rattle.octets.specs.Put.{put}
 use Rattle.board_writer.specs.laws.Building.{put-known}
-use mathlib.Core.List.{_++_}
+use mathlib.Core.List.{List, _++_}
 use mathlib.Core.Path.{_≡_, refl}
 use Rattle.board_writer.specs.Image.{head, zeros}
 use Rattle.kinds.specs.Signatures.{eeprMap}
 use Rattle.octets.specs.Runs.{sixteenBytes}
 use lib.ListN.{set}
 use mathlib.Core.Path.{ap}
-use mathlib.Core.List.{List}
-use Prim.Native.Nat.{ℕ}
+use borrow.Author.Needs.{needs}
 
 head-bytes-requires : tie.Need-head-bytes-requires
 head-bytes-requires c κs = search needs
@@ -93,13 +92,28 @@ array-write-bytes-3 c = search needs
 returns : tie.Need-returns
 unfolding put spelled
 returns c =
-    let a = c .before .before .before .before .before .before .before .before .before .before .before .before .before .before .before .before .before .before .before .before .before .before .before .before .before .before .before .args in
+    let c4 = c .before .before .before .before in
+    let c7 = c4 .before .before .before in
+    let c10 = c7 .before .before .before in
+    let c12 = c10 .before .before in
+    let c15 = c12 .before .before .before in
+    let c18 = c15 .before .before .before in
+    let c21 = c18 .before .before .before in
+    let c23 = c21 .before .before in
+    let c26 = c23 .before .before .before in
+    let c27 = c26 .before in
+    let a = c27 .args in
     let e0 : zeros 48 ≡ zeros 48 = refl in
-    let e1 : _ ≡ head eeprMap (a .length) ++ zeros 32 = put-known 0 (c .before .before .before .before .before .before .before .before .before .before .before .before .before .before .before .before .before .before .before .before .before .before .before .put-at .ensures) (c .before .before .before .before .before .before .before .before .before .before .before .before .before .before .before .before .before .before .before .before .before .before .before .before .before .before .head-bytes .ensures) e0 in
-    let e2 : _ ≡ head eeprMap (a .length) ++ sixteenBytes (a .map .partlabel) ++ zeros 16 = put-known 0x10 (c .before .before .before .before .before .before .before .before .before .before .before .before .before .before .before .before .before .before .put-at2 .ensures) (c .before .before .before .before .before .before .before .before .before .before .before .before .before .before .before .before .before .before .before .before .before .sixteen-bytes .ensures) e1 in
-    let e3 : _ ≡ head eeprMap (a .length) ++ sixteenBytes (a .map .partlabel) ++ spelled 4 (a .map .blklength) ++ zeros 12 = put-known 0x20 (c .before .before .before .before .before .before .before .before .before .before .before .before .put-at3 .ensures) (c .before .before .before .before .before .before .before .before .before .before .before .before .before .before .before .le32-bytes .ensures) e2 in
-    let e4 : _ ≡ head eeprMap (a .length) ++ sixteenBytes (a .map .partlabel) ++ spelled 4 (a .map .blklength) ++ spelled 2 (a .map .pagesize) ++ zeros 10 = put-known 0x24 (c .before .before .before .before .before .before .before .put-at4 .ensures) (c .before .before .before .before .before .before .before .before .before .before .le16-bytes .ensures) e3 in
-    let e5 : _ ≡ head eeprMap (a .length) ++ sixteenBytes (a .map .partlabel) ++ spelled 4 (a .map .blklength) ++ spelled 2 (a .map .pagesize) ++ spelled 4 (a .map .partsize) ++ zeros 6 = put-known 0x26 (c .before .put-at5 .ensures) (c .before .before .before .before .le32-bytes2 .ensures) e4 in
+    let f1 : List ℕ = head eeprMap (a .length) in
+    let e1 : _ ≡ f1 ++ zeros 32 = put-known 0 (c23 .put-at .ensures) (c26 .head-bytes .ensures) e0 in
+    let f2 : List ℕ = f1 ++ sixteenBytes (a .map .partlabel) in
+    let e2 : _ ≡ f2 ++ zeros 16 = put-known 0x10 (c18 .put-at2 .ensures) (c21 .sixteen-bytes .ensures) e1 in
+    let f3 : List ℕ = f2 ++ spelled 4 (a .map .blklength) in
+    let e3 : _ ≡ f3 ++ zeros 12 = put-known 0x20 (c12 .put-at3 .ensures) (c15 .le32-bytes .ensures) e2 in
+    let f4 : List ℕ = f3 ++ spelled 2 (a .map .pagesize) in
+    let e4 : _ ≡ f4 ++ zeros 10 = put-known 0x24 (c7 .put-at4 .ensures) (c10 .le16-bytes .ensures) e3 in
+    let f5 : List ℕ = f4 ++ spelled 4 (a .map .partsize) in
+    let e5 : _ ≡ f5 ++ zeros 6 = put-known 0x26 (c .before .put-at5 .ensures) (c4 .le32-bytes2 .ensures) e4 in
     ap (λ (l : List ℕ). set (set (set l 0x2A (a .map .busnumber)) 0x2B (a .map .master)) 0x2C (a .map .speed)) e5
 
 pub map-bytes-spec : {M : Type 1} → statement M

@@ -47,7 +47,12 @@ array-write-bytes c = search needs
 returns : tie.Need-returns
 unfolding put spelled
 returns c =
-    rw (c .before .put-at3 .ensures, c .before .before .before .before .before .before .put-at2 .ensures, c .before .before .before .before .before .before .before .before .before .before .before .put-at .ensures, c .before .before .before .before .before .before .before .before .before .before .before .before .before .before .sixteen-bytes .ensures, c .before .before .before .before .before .before .before .before .before .le32-bytes .ensures, c .before .before .before .before .le32-bytes2 .ensures)
+    let c4 = c .before .before .before .before in
+    let c6 = c4 .before .before in
+    let c9 = c6 .before .before .before in
+    let c11 = c9 .before .before in
+    let c14 = c11 .before .before .before in
+    rw (c .before .put-at3 .ensures, c6 .put-at2 .ensures, c11 .put-at .ensures, c14 .sixteen-bytes .ensures, c9 .le32-bytes .ensures, c4 .le32-bytes2 .ensures)
 
 pub record-bytes-spec : {M : Type 1} → statement M
 record-bytes-spec =
