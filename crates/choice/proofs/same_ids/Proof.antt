@@ -56,9 +56,16 @@ le32-at-requires-6 c κs = search needs
 returns-3 : tie.Need-returns-3
 unfolding sameIds
 returns-3 c =
-    let first = sym (c .before .before .before .before .before .before .before .before .le32-at .ensures) ∙ c .before .before .before .before .before .before .if1 .left ∙ c .before .before .before .before .before .before .before .le32-at2 .ensures in
-    let second = sym (c .before .before .before .before .before .le32-at3 .ensures) ∙ c .before .before .before .if2 .left ∙ c .before .before .before .before .le32-at4 .ensures in
-    rw (eq-eqb _ _ first, eq-eqb _ _ second, ne-eqb _ _ (λ e. c .if3 .taken (c .before .before .le32-at5 .ensures ∙ e ∙ sym (c .before .le32-at6 .ensures))))
+    let c2 = c .before .before in
+    let c3 = c2 .before in
+    let c4 = c3 .before in
+    let c5 = c4 .before in
+    let c6 = c5 .before in
+    let c7 = c6 .before in
+    let c8 = c7 .before in
+    let first = sym (c8 .le32-at .ensures) ∙ c6 .if1 .left ∙ c7 .le32-at2 .ensures in
+    let second = sym (c5 .le32-at3 .ensures) ∙ c3 .if2 .left ∙ c4 .le32-at4 .ensures in
+    rw (eq-eqb _ _ first, eq-eqb _ _ second, ne-eqb _ _ (λ e. c .if3 .taken (c2 .le32-at5 .ensures ∙ e ∙ sym (c .before .le32-at6 .ensures))))
 
 add-byte-at : tie.Need-add-byte-at
 add-byte-at c = search needs
@@ -75,9 +82,18 @@ byte-at-requires-2 c κs = search needs
 returns-4 : tie.Need-returns-4
 unfolding sameIds
 returns-4 c =
-    let first = sym (c .before .before .before .before .before .before .before .before .before .before .le32-at .ensures) ∙ c .before .before .before .before .before .before .before .before .if1 .left ∙ c .before .before .before .before .before .before .before .before .before .le32-at2 .ensures in
-    let second = sym (c .before .before .before .before .before .before .before .le32-at3 .ensures) ∙ c .before .before .before .before .before .if2 .left ∙ c .before .before .before .before .before .before .le32-at4 .ensures in
-    let third = sym (c .before .before .before .before .le32-at5 .ensures) ∙ c .before .before .if3 .left ∙ c .before .before .before .le32-at6 .ensures in
+    let c2 = c .before .before in
+    let c3 = c2 .before in
+    let c4 = c3 .before in
+    let c5 = c4 .before in
+    let c6 = c5 .before in
+    let c7 = c6 .before in
+    let c8 = c7 .before in
+    let c9 = c8 .before in
+    let c10 = c9 .before in
+    let first = sym (c10 .le32-at .ensures) ∙ c8 .if1 .left ∙ c9 .le32-at2 .ensures in
+    let second = sym (c7 .le32-at3 .ensures) ∙ c5 .if2 .left ∙ c6 .le32-at4 .ensures in
+    let third = sym (c4 .le32-at5 .ensures) ∙ c2 .if3 .left ∙ c3 .le32-at6 .ensures in
     rw (eq-eqb _ _ first, eq-eqb _ _ second, eq-eqb _ _ third, sym (c .before .byte-at .ensures), sym (c .byte-at2 .ensures))
 
 pub same-ids-spec : {M : Type 1} → statement M
