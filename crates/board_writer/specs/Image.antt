@@ -37,10 +37,14 @@ mapOf length m =
 abbrev pub recordOf : Sixteen → ℕ → ℕ → List ℕ
 recordOf label offset address = sixteenBytes label ++ spelled 4 mapRecordSize ++ spelled 4 offset ++ (address ∷ zeros 7)
 
+-- $BrdInfo has Length 60h
+abbrev pub boardLength : ℕ
+boardLength = 0x60
+
 -- $BrdInfo: ManuName, BrdName, BrdSerial, BoardId, FabId, EcId, BoardType, Reserved
 abbrev pub boardOf : BrdInfoFields → List ℕ
 boardOf b =
-    head brdInfo 0x60 ++ sixteenBytes (b .manuname) ++ sixteenBytes (b .brdname) ++ sixteenBytes (b .brdserial) ++ spelled 4 (b .boardid)
+    head brdInfo boardLength ++ sixteenBytes (b .manuname) ++ sixteenBytes (b .brdname) ++ sixteenBytes (b .brdserial) ++ spelled 4 (b .boardid)
     ++ spelled 4 (b .fabid) ++ spelled 4 (b .ecid) ++ (b .boardtype ∷ zeros 19)
 
 -- record k of the run, laid: "Record k has Offset k x BlkLength". (An Offset over 32 bits keeps its low ones, and the reader refuses it.)
@@ -56,9 +60,22 @@ laidRecords records block n = flatten (tab (laidRecord records block) n)
 abbrev pub mapLength : Parts → ℕ
 mapLength x = MapData + mapRecordSize * recordCount x
 
--- "StructLen is where they end": header, map, board (60h), further bytes
+-- where the map starts, its record k, the board, and the further bytes
+abbrev pub mapPlace : ℕ
+mapPlace = headerLength
+
+abbrev pub recordPlace : ℕ → ℕ
+recordPlace k = mapPlace + MapData + k * mapRecordSize
+
+abbrev pub boardPlace : Parts → ℕ
+boardPlace x = mapPlace + mapLength x
+
+abbrev pub furtherPlace : Parts → ℕ
+furtherPlace x = boardPlace x + boardLength
+
+-- "StructLen is where they end"
 abbrev pub imageLength : Parts → ℕ
-imageLength x = headerLength + mapLength x + 0x60 + length (x .further)
+imageLength x = furtherPlace x + length (x .further)
 
 -- all that follows the header. "further bytes .. laid right after `$BrdInfo`"
 unfoldable pub body : Parts → List ℕ

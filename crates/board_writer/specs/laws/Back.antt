@@ -6,8 +6,8 @@ use native.Mathlib.Omega.{arith}
 use lib.ListN.{length}
 use Rattle.board.specs.Items.{eepromAt, eeprMapAt, brdInfoAt}
 use Rattle.board.specs.Records.{mapRecordAt}
-use Rattle.board_layout.specs.Places.{MapLabel, Address, mapRecordSize}
-use Rattle.board_writer.specs.Image.{laidRecord, mapLength, imageLength, laid, crcLength, check, image}
+use Rattle.board_layout.specs.Places.{MapLabel, Address}
+use Rattle.board_writer.specs.Image.{laidRecord, imageLength, laid, crcLength, check, image, mapPlace, recordPlace, furtherPlace}
 use Rattle.board_writer.specs.Parts.{Parts, Fits, givenSize, recordCount, rule46}
 use Rattle.board_writer.specs.PartsOf.{mapGiven, recordGiven, recordsOf, furtherOf, partsOf}
 use Rattle.board_writer.specs.laws.Blocks.{record-lies}
@@ -35,10 +35,10 @@ module _ (x : Parts) (check covers : ℕ) (rest : List ℕ) (small : imageLength
   s = laid x check covers ++ rest
 
   -- record k, as the run has it
-  record-given : (k : ℕ) → k < recordCount x → recordGiven (mapRecordAt s (0x60 + k * mapRecordSize)) ≡ run (x .records) (0 + k * givenSize) givenSize
+  record-given : (k : ℕ) → k < recordCount x → recordGiven (mapRecordAt s (recordPlace k)) ≡ run (x .records) (0 + k * givenSize) givenSize
   unfolding mapRecordAt laidRecord sixteenAt spelled tab
   record-given k h =
-      let r : ℕ = 0x60 + k * mapRecordSize in
+      let r : ℕ = recordPlace k in
       let one : List ℕ = recordBlock x k in
       let lies : Lies s r one = record-lies x check covers rest k h in
       ap₂ (λ (label : Sixteen) (address : ℕ). sixteenBytes label ++ (address ∷ [])) (sixteen-in s r one lies MapLabel (omega arith))
@@ -48,9 +48,9 @@ module _ (x : Parts) (check covers : ℕ) (rest : List ℕ) (small : imageLength
   -- all of them, where whole seventeens are given
   records-back : rule46 x ≡ Nothing → recordsOf s ≡ x .records
   records-back good =
-      run-records s 0x30 (recordCount x) (omega (arith, map-head x check covers rest small .length)) (map-at x check covers rest small)
+      run-records s mapPlace (recordCount x) (omega (arith, map-head x check covers rest small .length)) (map-at x check covers rest small)
       ∙ ap flatten
-      (tab-agree (λ k. recordGiven (mapRecordAt s (0x60 + k * mapRecordSize))) (λ k. run (x .records) (0 + k * givenSize) givenSize) (recordCount x)
+      (tab-agree (λ k. recordGiven (mapRecordAt s (recordPlace k))) (λ k. run (x .records) (0 + k * givenSize) givenSize) (recordCount x)
       record-given)
       ∙ flat-runs (x .records) givenSize 0 (recordCount x)
       ∙ ap (run (x .records) 0) (records-whole x good)
@@ -59,9 +59,9 @@ module _ (x : Parts) (check covers : ℕ) (rest : List ℕ) (small : imageLength
   -- the further bytes: from the board's end up to StructLen
   further-back : furtherOf s ≡ x .further
   further-back =
-      let count : imageLength x - (0x90 + mapLength x) ≡ length (x .further) = omega arith in
+      let count : imageLength x - (furtherPlace x) ≡ length (x .further) = omega arith in
       ap₂ (λ (end board : ℕ). run s board (end - board)) (struct-len-is x check covers rest small) (board-end x check covers rest small)
-      ∙ ap (run s (0x90 + mapLength x)) count ∙ further-read x check covers rest
+      ∙ ap (run s (furtherPlace x)) count ∙ further-read x check covers rest
 
   -- all of it
   pub parts-back : Fits x → rule46 x ≡ Nothing → partsOf s ≡ x

@@ -11,7 +11,7 @@ use Rattle.board.specs.declared.EeprMapFields.{EeprMapFields}
 use Rattle.board.specs.declared.MapRecord.{MapRecord}
 use Rattle.board_layout.specs.Layout.{lengthAt}
 use Rattle.board_layout.specs.Places.{Crc32, CrcLength, Version, ManuName, BrdName, BrdSerial, BoardId, FabId, EcId, BoardType, PartLabel, BlkLength, PageSize, PartSize, BusNumber, Master, Speed, MapData, MapLabel, MapLength, MapOffset, Address, mapRecordSize}
-use Rattle.board_writer.specs.Image.{laidRecord, mapLength, imageLength, laid}
+use Rattle.board_writer.specs.Image.{laidRecord, imageLength, laid, mapPlace, recordPlace, boardPlace, furtherPlace}
 use Rattle.board_writer.specs.Parts.{Parts, Fits, givenSize, recordCount}
 use Rattle.board_writer.specs.laws.Blocks.{header-lies, map-lies, record-lies, board-lies, further-lies}
 use Rattle.board_writer.specs.laws.Length.{headerBlock, mapBlock, recordBlock, boardBlock}
@@ -33,7 +33,7 @@ mapShown x =
       busnumber = x .map .busnumber;
       master = x .map .master;
       speed = x .map .speed;
-      mapdata = record { place = 0x60; length = mapRecordSize * recordCount x };
+      mapdata = record { place = mapPlace + MapData; length = mapRecordSize * recordCount x };
     }
 
 -- record k: "Record k has Offset k x BlkLength"
@@ -65,23 +65,23 @@ module _ (x : Parts) (check covers : ℕ) (rest : List ℕ) where
       le32-in s 0 (headerBlock x check covers) (header-lies x check covers rest) Version (omega arith) ∙ little-spelled 4 (x .version) (fits .version)
 
   -- where the records lie
-  rest-read : imageLength x < 0x1_0000_0000 → restAt s 0x30 MapData ≡ record { place = 0x60; length = mapRecordSize * recordCount x }
+  rest-read : imageLength x < 0x1_0000_0000 → restAt s mapPlace MapData ≡ record { place = mapPlace + MapData; length = mapRecordSize * recordCount x }
   unfolding restAt
   rest-read small =
-      let e : lengthAt s 0x30 - MapData ≡ mapRecordSize * recordCount x = omega (arith, map-head x check covers rest small .length) in
-      ap (λ (n : ℕ). record { place = 0x60; length = n }) e
+      let e : lengthAt s mapPlace - MapData ≡ mapRecordSize * recordCount x = omega (arith, map-head x check covers rest small .length) in
+      ap (λ (n : ℕ). record { place = mapPlace + MapData; length = n }) e
 
   -- the map, up to its records
-  pub map-read : imageLength x < 0x1_0000_0000 → Fits x → eeprMapAt s 0x30 ≡ mapShown x
+  pub map-read : imageLength x < 0x1_0000_0000 → Fits x → eeprMapAt s mapPlace ≡ mapShown x
   unfolding eeprMapAt sixteenAt spelled le16 le32 tab
   map-read small fits i =
       let map : List ℕ = mapBlock x in
-      let lies : Lies s 0x30 map = map-lies x check covers rest in
+      let lies : Lies s mapPlace map = map-lies x check covers rest in
       record {
-        partlabel = sixteen-in s 0x30 map lies PartLabel (omega arith) i;
-        blklength = (le32-in s 0x30 map lies BlkLength (omega arith) ∙ little-spelled 4 (x .map .blklength) (fits .blkLength)) i;
-        pagesize = (le16-in s 0x30 map lies PageSize (omega arith) ∙ little-spelled 2 (x .map .pagesize) (fits .pageSize)) i;
-        partsize = (le32-in s 0x30 map lies PartSize (omega arith) ∙ little-spelled 4 (x .map .partsize) (fits .partSize)) i;
+        partlabel = sixteen-in s mapPlace map lies PartLabel (omega arith) i;
+        blklength = (le32-in s mapPlace map lies BlkLength (omega arith) ∙ little-spelled 4 (x .map .blklength) (fits .blkLength)) i;
+        pagesize = (le16-in s mapPlace map lies PageSize (omega arith) ∙ little-spelled 2 (x .map .pagesize) (fits .pageSize)) i;
+        partsize = (le32-in s mapPlace map lies PartSize (omega arith) ∙ little-spelled 4 (x .map .partsize) (fits .partSize)) i;
         busnumber = lies BusNumber (omega arith) i;
         master = lies Master (omega arith) i;
         speed = lies Speed (omega arith) i;
@@ -89,10 +89,10 @@ module _ (x : Parts) (check covers : ℕ) (rest : List ℕ) where
       }
 
   -- a record whose Offset fits its field
-  pub record-read : (k : ℕ) → k < recordCount x → k * x .map .blklength < 0x1_0000_0000 → mapRecordAt s (0x60 + k * mapRecordSize) ≡ recordShown x k
+  pub record-read : (k : ℕ) → k < recordCount x → k * x .map .blklength < 0x1_0000_0000 → mapRecordAt s (recordPlace k) ≡ recordShown x k
   unfolding mapRecordAt laidRecord sixteenAt spelled le32 tab
   record-read k h offset i =
-      let r : ℕ = 0x60 + k * mapRecordSize in
+      let r : ℕ = recordPlace k in
       let one : List ℕ = recordBlock x k in
       let lies : Lies s r one = record-lies x check covers rest k h in
       record {
@@ -103,10 +103,10 @@ module _ (x : Parts) (check covers : ℕ) (rest : List ℕ) where
       }
 
   -- the board
-  pub board-read : Fits x → brdInfoAt s (0x30 + mapLength x) ≡ x .board
+  pub board-read : Fits x → brdInfoAt s (boardPlace x) ≡ x .board
   unfolding brdInfoAt sixteenAt spelled le32 tab
   board-read fits i =
-      let b : ℕ = 0x30 + mapLength x in
+      let b : ℕ = boardPlace x in
       let board : List ℕ = boardBlock x in
       let lies : Lies s b board = board-lies x check covers rest in
       record {
@@ -120,5 +120,5 @@ module _ (x : Parts) (check covers : ℕ) (rest : List ℕ) where
       }
 
   -- the further bytes
-  pub further-read : run s (0x90 + mapLength x) (length (x .further)) ≡ x .further
-  further-read = lies-run s (0x90 + mapLength x) (x .further) (further-lies x check covers rest)
+  pub further-read : run s (furtherPlace x) (length (x .further)) ≡ x .further
+  further-read = lies-run s (furtherPlace x) (x .further) (further-lies x check covers rest)

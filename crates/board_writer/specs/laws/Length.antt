@@ -7,7 +7,7 @@ use lib.ListN.{length, length-append}
 use Rattle.board.specs.declared.BrdInfoFields.{BrdInfoFields}
 use Rattle.board_layout.specs.Places.{MapData, mapRecordSize}
 use Rattle.board_rules.specs.Rules.{headerLength}
-use Rattle.board_writer.specs.Image.{headerOf, mapOf, boardOf, laidRecord, laidRecords, mapLength, imageLength, body, laid, crcLength, check, image}
+use Rattle.board_writer.specs.Image.{headerOf, mapOf, boardOf, laidRecord, laidRecords, mapLength, imageLength, body, laid, crcLength, check, image, boardLength}
 use Rattle.board_writer.specs.Parts.{Parts, recordCount}
 use Rattle.board_writer.specs.declared.MapFields.{MapFields}
 use Rattle.octets.specs.laws.Pieces.{flat-length}
@@ -43,7 +43,7 @@ pub record-length : (records : List ℕ) (block k : ℕ) → length (laidRecord 
 unfolding laidRecord spelled
 record-length records block k = refl
 
-pub board-length : (b : BrdInfoFields) → length (boardOf b) ≡ 0x60
+pub board-length : (b : BrdInfoFields) → length (boardOf b) ≡ boardLength
 unfolding spelled
 board-length b = refl
 
@@ -53,7 +53,7 @@ unfolding laidRecords
 records-length records block n = flat-length (laidRecord records block) mapRecordSize n (record-length records block)
 
 -- all that follows the header
-pub body-length : (x : Parts) → length (body x) ≡ mapLength x + 0x60 + length (x .further)
+pub body-length : (x : Parts) → length (body x) ≡ mapLength x + boardLength + length (x .further)
 unfolding body
 body-length x =
     length-append (mapBlock x ++ recordsBlock x ++ boardBlock x) (x .further)

@@ -1,17 +1,17 @@
 -- The heads of the first three structures of an image, and with their Lengths where each one lies and ends: a head is read in its block, whatever the check
 -- fields are and whatever bytes follow the image. Assumes nothing.
-use Prim.Native.Nat.{ℕ, _+_, _*_, _%_, _≤_, _<_}
+use Prim.Native.Nat.{ℕ, _+_, _%_, _≤_, _<_}
 use mathlib.Core.List.{List, _++_}
 use mathlib.Core.Path.{_≡_, refl, sym, ap, _∙_}
 use native.Mathlib.Nat.{add-zero}
 use native.Mathlib.Omega.{arith}
 use lib.ListN.{length}
 use Rattle.board_layout.specs.Layout.{signatureAt, majorAt, minorAt, lengthAt, structLen, endAt, round16, next, mapAt, boardAt, laterAt, records}
-use Rattle.board_layout.specs.Places.{VerMajor, VerMinor, Length, headSize, StructLen, mapRecordSize}
+use Rattle.board_layout.specs.Places.{VerMajor, VerMinor, Length, headSize, StructLen}
 use Rattle.board_layout.specs.declared.Records.the-variants.{Map}
 use Rattle.board_layout.specs.laws.Layout.{next-round, round-same}
 use Rattle.board_rules.specs.Rules.{headerLength}
-use Rattle.board_writer.specs.Image.{mapLength, imageLength, laid}
+use Rattle.board_writer.specs.Image.{mapLength, imageLength, laid, boardLength, mapPlace, recordPlace, boardPlace, furtherPlace}
 use Rattle.board_writer.specs.Parts.{Parts, recordCount}
 use Rattle.board_writer.specs.laws.Blocks.{header-lies, map-lies, board-lies}
 use Rattle.board_writer.specs.laws.Length.{headerBlock, mapBlock, boardBlock}
@@ -56,16 +56,16 @@ module _ (x : Parts) (check covers : ℕ) (rest : List ℕ) (small : imageLength
       head-in s 0 (headerBlock x check covers) eeprom headerLength (header-lies x check covers rest) (omega arith)
       (record { signature = refl; major = refl; minor = refl; length = refl })
 
-  pub map-head : Head s 0x30 eeprMap (mapLength x)
+  pub map-head : Head s mapPlace eeprMap (mapLength x)
   unfolding spelled le16 le32 le64 tab
   map-head =
-      head-in s 0x30 (mapBlock x) eeprMap (mapLength x) (map-lies x check covers rest) (omega arith)
+      head-in s mapPlace (mapBlock x) eeprMap (mapLength x) (map-lies x check covers rest) (omega arith)
       (record { signature = refl; major = refl; minor = refl; length = little-spelled 4 (mapLength x) (omega arith) })
 
-  pub board-head : Head s (0x30 + mapLength x) brdInfo 0x60
+  pub board-head : Head s (boardPlace x) brdInfo boardLength
   unfolding spelled le16 le32 le64 tab
   board-head =
-      head-in s (0x30 + mapLength x) (boardBlock x) brdInfo 0x60 (board-lies x check covers rest) (omega arith)
+      head-in s (boardPlace x) (boardBlock x) brdInfo boardLength (board-lies x check covers rest) (omega arith)
       (record { signature = refl; major = refl; minor = refl; length = refl })
 
   -- ---- the places
@@ -75,24 +75,24 @@ module _ (x : Parts) (check covers : ℕ) (rest : List ℕ) (small : imageLength
       le32-in s 0 (headerBlock x check covers) (header-lies x check covers rest) StructLen (omega arith)
       ∙ little-spelled 4 (imageLength x) (omega arith)
 
-  pub map-at : mapAt s ≡ 0x30
+  pub map-at : mapAt s ≡ mapPlace
   unfolding mapAt
   map-at = next-is s 0 headerLength (header-head .length) (omega arith) (omega arith)
 
-  pub board-at : boardAt s ≡ 0x30 + mapLength x
+  pub board-at : boardAt s ≡ boardPlace x
   unfolding boardAt
-  board-at = ap (next s) map-at ∙ next-is s 0x30 (mapLength x) (map-head .length) (omega arith) (omega arith)
+  board-at = ap (next s) map-at ∙ next-is s mapPlace (mapLength x) (map-head .length) (omega arith) (omega arith)
 
-  pub board-end : endAt s (boardAt s) ≡ 0x90 + mapLength x
+  pub board-end : endAt s (boardAt s) ≡ furtherPlace x
   unfolding endAt
   board-end = ap (endAt s) board-at ∙ omega (arith, board-head .length)
 
   -- the later structures start where the further bytes do
-  pub later-at : laterAt s ≡ 0x90 + mapLength x
+  pub later-at : laterAt s ≡ furtherPlace x
   unfolding laterAt
   later-at =
-      ap (next s) board-at ∙ next-is s (0x30 + mapLength x) 0x60 (board-head .length) (omega arith) (omega arith) ∙ omega arith
+      ap (next s) board-at ∙ next-is s (boardPlace x) boardLength (board-head .length) (omega arith) (omega arith) ∙ omega arith
 
   -- record k of the map starts at 60h + 20h k
-  pub records-at : records Map s (mapAt s) ≡ tab (λ k. 0x60 + k * mapRecordSize) (recordCount x)
-  records-at = ap (records Map s) map-at ∙ record-places s 0x30 (recordCount x) (omega (arith, map-head .length))
+  pub records-at : records Map s (mapAt s) ≡ tab recordPlace (recordCount x)
+  records-at = ap (records Map s) map-at ∙ record-places s mapPlace (recordCount x) (omega (arith, map-head .length))

@@ -1,6 +1,6 @@
 -- Field by field: what a reader with any list answers by number over the first m bytes of a buffer after a call that answers a length n, m from n to 65,536.
 -- Assumes nothing.
-use Prim.Native.Nat.{ℕ, _+_, _-_, _≤_, _<_}
+use Prim.Native.Nat.{ℕ, _-_, _≤_, _<_}
 use mathlib.Core.List.{List, _++_}
 use mathlib.Core.Path.{_≡_, sym, subst}
 use native.Mathlib.Omega.{arith}
@@ -10,9 +10,9 @@ use Rattle.board.specs.declared.Fields.{Fields}
 use Rattle.board.specs.declared.ItemAnswer.{ItemAnswer}
 use Rattle.board.specs.declared.MapRecordAnswer.{MapRecordAnswer}
 use Rattle.board_rules.specs.Judged.{judged}
-use Rattle.board_rules.specs.Rules.{promSigAt}
+use Rattle.board_rules.specs.Rules.{promSigAt, headerLength}
 use Rattle.board_rules.specs.laws.Shorter.{shorter-accepts}
-use Rattle.board_writer.specs.Image.{mapLength, imageLength, crcLength, check, image}
+use Rattle.board_writer.specs.Image.{mapLength, imageLength, crcLength, check, image, boardLength, mapPlace, boardPlace, furtherPlace}
 use Rattle.board_writer.specs.Parts.{Parts, Fits, recordCount}
 use Rattle.board_writer.specs.Written.{written}
 use Rattle.board_writer.specs.laws.Fields.{mapShown, recordShown, further-read}
@@ -29,12 +29,12 @@ use Rattle.verdict.specs.declared.Judged.the-variants.{Accepted}
 
 -- what a reader answers over an image of these parts
 pub record Answers (x : Parts) (k : Kinds) (s : List ℕ) : Type 0 where
-  pub header : itemNumbered k s 0 ≡ ItemAnswer.Shown (itemShown eeprom 0 0x30 (Fields.Eeprom (headerShown x)))
-  pub map : itemNumbered k s 1 ≡ ItemAnswer.Shown (itemShown eeprMap 0x30 (mapLength x) (Fields.EeprMap (mapShown x)))
-  pub board : itemNumbered k s 2 ≡ ItemAnswer.Shown (itemShown brdInfo (0x30 + mapLength x) 0x60 (Fields.BrdInfo (x .board)))
+  pub header : itemNumbered k s 0 ≡ ItemAnswer.Shown (itemShown eeprom 0 headerLength (Fields.Eeprom (headerShown x)))
+  pub map : itemNumbered k s 1 ≡ ItemAnswer.Shown (itemShown eeprMap mapPlace (mapLength x) (Fields.EeprMap (mapShown x)))
+  pub board : itemNumbered k s 2 ≡ ItemAnswer.Shown (itemShown brdInfo (boardPlace x) boardLength (Fields.BrdInfo (x .board)))
   pub records : (i : ℕ) → i < recordCount x → mapRecordNumbered k s i ≡ MapRecordAnswer.Shown (recordShown x i)
   pub past : (i : ℕ) → recordCount x ≤ i → mapRecordNumbered k s i ≡ MapRecordAnswer.Refused beyond
-  pub further : run s (0x90 + mapLength x) (length (x .further)) ≡ x .further
+  pub further : run s (furtherPlace x) (length (x .further)) ≡ x .further
 
 -- over the image with other bytes after it, where it is accepted without a `$PromSig`
 image-answers : (x : Parts) (rest : List ℕ) (k : Kinds) (count : ℕ) → Fits x → imageLength x ≤ 65536
