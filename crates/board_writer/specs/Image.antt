@@ -47,7 +47,7 @@ boardOf b =
     head brdInfo boardLength ++ sixteenBytes (b .manuname) ++ sixteenBytes (b .brdname) ++ sixteenBytes (b .brdserial) ++ spelled 4 (b .boardid)
     ++ spelled 4 (b .fabid) ++ spelled 4 (b .ecid) ++ (b .boardtype ∷ zeros 19)
 
--- record k of the run, laid: "Record k has Offset k x BlkLength". (An Offset over 32 bits keeps its low ones, and the reader refuses it.)
+-- record k of the run, laid: "Record k has Offset k x BlkLength". (An Offset over 32 bits keeps its low ones; the reader refuses the image.)
 unfoldable pub laidRecord : List ℕ → ℕ → ℕ → List ℕ
 laidRecord records block k =
     recordOf (sixteenAt records (givenSize * k)) (k * block) (byte records (givenSize * k + 16))
