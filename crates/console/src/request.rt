@@ -1,11 +1,15 @@
 // The parts of a request, a line with semicolons between them: decimal numbers, and bytes in hexadecimal.
+use octets::byte_at;
 use octets::byte_from;
+ghost use mathlib.Core.Bool.{false};
 ghost use mathlib.Core.Path.{_≡_};
-ghost use Prim.Native.Nat.{_≤_};
-ghost use lib.ListN.{length};
+ghost use Prim.Native.Nat.{_+_, _≤_};
+ghost use lib.ListN.{length, drop};
 ghost use Rattle.io.specs.Counts.{Counts};
+ghost use Rattle.octets.specs.Bytes.{byte};
+ghost use Rattle.console.specs.Request.{firstOf, semicolonsIn, behind, partOf, value, given, blanks, digits, decimalIn, numberAt, numberIn, twoDigits, bytesIn, countIn, over};
 
-// Whether a part could be read; and the number, or how many bytes there are.
+// Whether a part could be read; and the number, or how many bytes there are: 0 if it could not.
 pub struct Part {
     pub good: bool,
     pub count: usize,
@@ -13,7 +17,7 @@ pub struct Part {
 
 // A part that could not be read.
 fn bad_part() -> Part
-    ensures { λ r. ⌜ r .count ≡ 0 ⌝ }
+    ensures { λ r. ⌜ r ≡ given false 0 ⌝ }
 {
     Part {
         good: false,
@@ -23,7 +27,7 @@ fn bad_part() -> Part
 
 // The place of the first byte b; the end without one.
 pub fn first_of(line: &[u8], b: u8) -> usize
-    ensures { λ r. ⌜ Counts r (now (line .entry)) ⌝ }
+    ensures { λ r. ⌜ (r ≡ firstOf b (now (line .entry))) × Counts r (now (line .entry)) ⌝ }
 {
     let mut at = 0;
     while at < line.len() {
@@ -32,12 +36,12 @@ pub fn first_of(line: &[u8], b: u8) -> usize
         }
         at += 1;
     }
-    line.len()
+    at
 }
 
 // How many semicolons a line has.
 pub fn semicolons(line: &[u8]) -> usize
-    ensures { λ r. ⌜ r ≤ length (now (line .entry)) ⌝ }
+    ensures { λ r. ⌜ r ≡ semicolonsIn (now (line .entry)) ⌝ }
 {
     let mut at = 0;
     let mut n = 0;
@@ -52,7 +56,7 @@ pub fn semicolons(line: &[u8]) -> usize
 
 // Where part n of a line begins, counted from 0: behind as many semicolons; the end without so many.
 fn part_start(line: &[u8], n: usize) -> usize
-    ensures { λ r. ⌜ Counts r (now (line .entry)) ⌝ }
+    ensures { λ r. ⌜ (drop r (now (line .entry)) ≡ behind n (now (line .entry))) × Counts r (now (line .entry)) ⌝ }
 {
     let mut left = n;
     let mut at = 0;
@@ -68,20 +72,10 @@ fn part_start(line: &[u8], n: usize) -> usize
     line.len()
 }
 
-// The place of the first byte that is no blank, from a place on; the end without one.
-fn past_blanks(part: &[u8], from: usize) -> usize {
-    let mut at = from;
-    while at < part.len() {
-        if part[at] != b' ' {
-            return at;
-        }
-        at += 1;
-    }
-    part.len()
-}
-
 // What a digit stands for; 16 for any other character.
-fn value(c: u8) -> u8 {
+fn value(c: u8) -> u8
+    ensures { λ r. ⌜ (r ≡ value c) × (r ≤ 16) ⌝ }
+{
     if b'0' <= c && c <= b'9' {
         return c - b'0';
     }
@@ -94,22 +88,43 @@ fn value(c: u8) -> u8 {
     16
 }
 
-// A decimal number, at most `most`, with blanks around it.
-fn number(part: &[u8], most: u32) -> Part
-    ensures { λ r. ⌜ r .count ≤ most ⌝ }
+// How many blanks are at the front of a text.
+fn blanks(text: &[u8]) -> usize
+    ensures { λ r. ⌜ (r ≡ blanks (now (text .entry))) × (r ≤ length (now (text .entry))) ⌝ }
+{
+    let mut at = 0;
+    while at < text.len() {
+        if text[at] != b' ' {
+            return at;
+        }
+        at += 1;
+    }
+    at
+}
+
+// How many decimal digits are at the front of a text.
+fn digits(text: &[u8]) -> usize
+    ensures { λ r. ⌜ (r ≡ digits (now (text .entry))) × (r ≤ length (now (text .entry))) ⌝ }
+{
+    let mut at = 0;
+    while at < text.len() {
+        if 9 < value(text[at]) {
+            return at;
+        }
+        at += 1;
+    }
+    at
+}
+
+// The number that decimal digits spell, at most `most`.
+fn decimal(text: &[u8], most: u32) -> Part
+    ensures { λ r. ⌜ (r ≡ decimalIn most (now (text .entry))) × (r .count ≤ most) ⌝ }
 {
     let bound = most as usize;
-    let start = past_blanks(part, 0);
-    let mut at = start;
+    let mut at = 0;
     let mut n = 0;
-    while at < part.len() {
-        let d = value(part[at]) as usize;
-        if 9 < d {
-            return Part {
-                good: start < at && past_blanks(part, at) == part.len(),
-                count: n,
-            };
-        }
+    while at < text.len() {
+        let d = value(text[at]) as usize;
         n = n * 10 + d;
         if bound < n {
             return bad_part();
@@ -117,14 +132,38 @@ fn number(part: &[u8], most: u32) -> Part
         at += 1;
     }
     Part {
-        good: start < at,
+        good: true,
         count: n,
     }
 }
 
+// A decimal number, at most `most`, at the front of a text, and only blanks behind it.
+fn number_at(text: &[u8], most: u32) -> Part
+    ensures { λ r. ⌜ (r ≡ numberAt most (now (text .entry))) × (r .count ≤ most) ⌝ }
+{
+    let n = digits(text);
+    if n == 0 {
+        return bad_part();
+    }
+    if blanks(&text[n..]) != text.len() - n {
+        return bad_part();
+    }
+    decimal(&text[..n], most)
+}
+
+// A decimal number, at most `most`, with blanks around it.
+fn number(part: &[u8], most: u32) -> Part
+    ensures { λ r. ⌜ (r ≡ numberIn most (now (part .entry))) × (r .count ≤ most) ⌝ }
+{
+    let start = blanks(part);
+    number_at(&part[start..], most)
+}
+
 // The byte of the two digits at a place; 256 if there are no two digits.
-fn two_digits(part: &[u8], at: usize) -> u16 {
-    let high = value(byte_from(part, at, 0));
+fn two_digits(part: &[u8], at: usize) -> u16
+    ensures { λ r. ⌜ r ≡ twoDigits (byte (now (part .entry)) at) (byte (now (part .entry)) (at + 1)) ⌝ }
+{
+    let high = value(byte_at(part, at));
     let low = value(byte_from(part, at, 1));
     if 15 < high {
         return 256;
@@ -137,7 +176,7 @@ fn two_digits(part: &[u8], at: usize) -> u16 {
 
 // Bytes of two digits each, with blanks between them and around, put at the front of `out`.
 fn bytes(part: &[u8], out: &mut [u8]) -> Part
-    ensures { λ r. ⌜ Counts (r .count) (now (out .exit)) ⌝ }
+    ensures { λ r. ⌜ (r ≡ countIn (length (now (out .entry))) (now (part .entry))) × (now (out .exit) ≡ over (bytesIn (now (part .entry))) (now (out .entry))) × Counts (r .count) (now (out .exit)) ⌝ }
 {
     let mut at = 0;
     let mut n = 0;
@@ -165,7 +204,7 @@ fn bytes(part: &[u8], out: &mut [u8]) -> Part
 
 // The number that part n of a line is, at most `most`.
 pub fn number_of(line: &[u8], n: usize, most: u32) -> Part
-    ensures { λ r. ⌜ r .count ≤ most ⌝ }
+    ensures { λ r. ⌜ (r ≡ numberIn most (partOf n (now (line .entry)))) × (r .count ≤ most) ⌝ }
 {
     let start = part_start(line, n);
     let end = start + first_of(&line[start..], b';');
@@ -174,7 +213,7 @@ pub fn number_of(line: &[u8], n: usize, most: u32) -> Part
 
 // The bytes that part n of a line gives, put at the front of `out`; a line without a part n gives none.
 pub fn bytes_of(line: &[u8], n: usize, out: &mut [u8]) -> Part
-    ensures { λ r. ⌜ Counts (r .count) (now (out .exit)) ⌝ }
+    ensures { λ r. ⌜ (r ≡ countIn (length (now (out .entry))) (partOf n (now (line .entry)))) × (now (out .exit) ≡ over (bytesIn (partOf n (now (line .entry)))) (now (out .entry))) × Counts (r .count) (now (out .exit)) ⌝ }
 {
     let start = part_start(line, n);
     let end = start + first_of(&line[start..], b';');

@@ -1,25 +1,31 @@
--- `request::first_of` meets its contract: each turn goes on by a byte of the line. Assumes nothing.
-use Prim.Native.Nat.{_-_}
+-- `request::first_of` meets its contract. The loop's invariant: with those from the place on, all that come before the first b are counted. Assumes nothing.
 use native.Mathlib.Omega.{arith}
-use lib.ListN.{length}
-use Rattle.io.proofs.Counting.{counts}
 use Rattle.console.proofs.request.first_of.Statement.{statement}
 use Rattle.console.proofs.request.first_of.Tie as tie
+use Prim.Native.Nat.{_+_, _-_, _≤_}
+use mathlib.Core.Path.{_≡_}
+use native.Mathlib.Nat.{zero-add}
+use lib.ListN.{length, drop}
+use borrow.Author.Tests.{eq-eqb, ne-eqb}
+use Rattle.io.proofs.Counting.{counts}
+use Rattle.console.specs.Request.{before, firstOf}
+use Rattle.console.specs.laws.Request.{before-turn, before-hit, before-done}
 
 abbrev Inv-loop : tie.InvT-loop
-Inv-loop line b at₀ at = Unit {0}
+Inv-loop line b at₀ at = (at + firstOf b (drop at line) ≡ firstOf b line) × (at ≤ length line)
 
 abbrev μ-loop : tie.MeasureT-loop
 μ-loop line b at₀ at = length line - at
 
 loop-holds : tie.Need-loop-holds Inv-loop μ-loop
-loop-holds c = tt
+loop-holds c = (zero-add _, omega arith)
 
 shared-slice-read-if1 : tie.Need-shared-slice-read-if1 Inv-loop μ-loop
 shared-slice-read-if1 c = omega arith
 
 returns : tie.Need-returns Inv-loop μ-loop
-returns c = counts _ _ (omega arith)
+returns c =
+    (before-hit _ _ _ _ (c .before .before .loop-test .taken) (eq-eqb _ _ (c .if1 .taken)) (c .before .before .before .loop .inv .0), counts _ _ (omega arith))
 
 add-at : tie.Need-add-at Inv-loop μ-loop
 add-at c = omega arith
@@ -28,10 +34,11 @@ loop-less : tie.Need-loop-less Inv-loop μ-loop
 loop-less c = omega arith
 
 loop-again : tie.Need-loop-again Inv-loop μ-loop
-loop-again c = tt
+loop-again c =
+    (before-turn _ _ _ _ (c .before .before .loop-test .taken) (ne-eqb _ _ (c .if1 .left)) (c .before .before .before .loop .inv .0), omega arith)
 
 returns-2 : tie.Need-returns-2 Inv-loop μ-loop
-returns-2 c = counts _ _ (omega arith)
+returns-2 c = (before-done _ _ _ _ (c .loop-test .left) (c .before .loop .inv .0), counts _ _ (omega arith))
 
 pub first-of-spec : {M : Type 1} → statement M
 first-of-spec =

@@ -1,0 +1,5 @@
+-- What is proved of the definitions. Assumes nothing.
+
+pub mod Request
+pub mod Parts
+pub mod Bytes
