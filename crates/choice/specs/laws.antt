@@ -4,3 +4,4 @@ pub mod Boards
 pub mod Exactly
 pub mod Parts
 pub mod Lent
+pub mod Said

@@ -6,6 +6,8 @@ use mathlib.Core.List.{List, [], _∷_}
 use lib.Dec.{eqb, leb, ltb}
 use lib.ListN.{length, take, drop}
 use Rattle.console.specs.declared.request.Part.{Part}
+use Rattle.console.specs.declared.request.Stop.{Stop}
+use Rattle.console.specs.declared.request.Stop.the-variants.{Found, NoBlank, NoDigit}
 
 -- how many elements come before the first that passes the test; all of them where none does
 unfoldable pub before : (ℕ → Bool) → List ℕ → ℕ
@@ -43,6 +45,12 @@ unfoldable pub value : ℕ → ℕ
 value c =
     cond (within 0x30 0x39 c) (c - 0x30) (cond (within 0x41 0x46 c) (c - 0x41 + 10) (cond (within 0x61 0x66 c) (c - 0x61 + 10) 16))
 
+-- where a search stops: at a byte b, at what is no blank, at what is no decimal digit
+abbrev pub stops : Stop → ℕ → Bool
+stops (Found b) = λ c. eqb c b
+stops NoBlank = λ c. not (eqb c 0x20)
+stops NoDigit = λ c. ltb 9 (value c)
+
 -- a part that is good has a number, or a count of bytes; one that is not has 0
 abbrev pub given : Bool → ℕ → Part
 given true n = record { good = true; count = n }
@@ -50,11 +58,11 @@ given false n = record { good = false; count = 0 }
 
 -- how many blanks are at the front
 abbrev pub blanks : List ℕ → ℕ
-blanks l = before (λ c. not (eqb c 0x20)) l
+blanks l = before (stops NoBlank) l
 
 -- how many decimal digits are at the front
 abbrev pub digits : List ℕ → ℕ
-digits l = before (λ c. ltb 9 (value c)) l
+digits l = before (stops NoDigit) l
 
 -- the number that decimal digits spell, behind digits that spell n
 unfoldable pub decimalFrom : ℕ → List ℕ → ℕ

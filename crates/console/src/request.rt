@@ -7,12 +7,19 @@ ghost use Prim.Native.Nat.{_+_, _≤_};
 ghost use lib.ListN.{length, drop};
 ghost use Rattle.io.specs.Counts.{Counts};
 ghost use Rattle.octets.specs.Bytes.{byte};
-ghost use Rattle.console.specs.Request.{firstOf, semicolonsIn, behind, partOf, value, given, blanks, digits, decimalIn, numberAt, numberIn, twoDigits, bytesIn, countIn, over};
+ghost use Rattle.console.specs.Request.{before, firstOf, semicolonsIn, behind, partOf, value, stops, given, decimalIn, numberAt, numberIn, twoDigits, bytesIn, countIn, over};
 
 // Whether a part could be read; and the number, or how many bytes there are: 0 if it could not.
 pub struct Part {
     pub good: bool,
     pub count: usize,
+}
+
+// Where a search along a text stops: at a byte, at the first that is no blank, at the first that is no decimal digit.
+pub enum Stop {
+    Found(u8),
+    NoBlank,
+    NoDigit,
 }
 
 // A part that could not be read.
@@ -23,20 +30,6 @@ fn bad_part() -> Part
         good: false,
         count: 0,
     }
-}
-
-// The place of the first byte b; the end without one.
-pub fn first_of(line: &[u8], b: u8) -> usize
-    ensures { λ r. ⌜ (r ≡ firstOf b (now (line .entry))) × Counts r (now (line .entry)) ⌝ }
-{
-    let mut at = 0;
-    while at < line.len() {
-        if line[at] == b {
-            return at;
-        }
-        at += 1;
-    }
-    at
 }
 
 // How many semicolons a line has.
@@ -88,13 +81,24 @@ fn value(c: u8) -> u8
     16
 }
 
-// How many blanks are at the front of a text.
-fn blanks(text: &[u8]) -> usize
-    ensures { λ r. ⌜ (r ≡ blanks (now (text .entry))) × (r ≤ length (now (text .entry))) ⌝ }
+// Whether a search stops at a byte.
+fn stops(stop: Stop, c: u8) -> bool
+    ensures { λ r. ⌜ r ≡ stops stop c ⌝ }
+{
+    match stop {
+        Stop::Found(b) => c == b,
+        Stop::NoBlank => c != b' ',
+        Stop::NoDigit => 9 < value(c),
+    }
+}
+
+// How many bytes come before the one at which a search stops; all of them if it stops nowhere.
+fn count_before(stop: Stop, text: &[u8]) -> usize
+    ensures { λ r. ⌜ (r ≡ before (stops stop) (now (text .entry))) × Counts r (now (text .entry)) ⌝ }
 {
     let mut at = 0;
     while at < text.len() {
-        if text[at] != b' ' {
+        if stops(stop, text[at]) {
             return at;
         }
         at += 1;
@@ -102,18 +106,11 @@ fn blanks(text: &[u8]) -> usize
     at
 }
 
-// How many decimal digits are at the front of a text.
-fn digits(text: &[u8]) -> usize
-    ensures { λ r. ⌜ (r ≡ digits (now (text .entry))) × (r ≤ length (now (text .entry))) ⌝ }
+// The place of the first byte b; the end without one.
+pub fn first_of(line: &[u8], b: u8) -> usize
+    ensures { λ r. ⌜ (r ≡ firstOf b (now (line .entry))) × Counts r (now (line .entry)) ⌝ }
 {
-    let mut at = 0;
-    while at < text.len() {
-        if 9 < value(text[at]) {
-            return at;
-        }
-        at += 1;
-    }
-    at
+    count_before(Stop::Found(b), line)
 }
 
 // The number that decimal digits spell, at most `most`.
@@ -141,11 +138,11 @@ fn decimal(text: &[u8], most: u32) -> Part
 fn number_at(text: &[u8], most: u32) -> Part
     ensures { λ r. ⌜ (r ≡ numberAt most (now (text .entry))) × (r .count ≤ most) ⌝ }
 {
-    let n = digits(text);
+    let n = count_before(Stop::NoDigit, text);
     if n == 0 {
         return bad_part();
     }
-    if blanks(&text[n..]) != text.len() - n {
+    if count_before(Stop::NoBlank, &text[n..]) != text.len() - n {
         return bad_part();
     }
     decimal(&text[..n], most)
@@ -155,7 +152,7 @@ fn number_at(text: &[u8], most: u32) -> Part
 fn number(part: &[u8], most: u32) -> Part
     ensures { λ r. ⌜ (r ≡ numberIn most (now (part .entry))) × (r .count ≤ most) ⌝ }
 {
-    let start = blanks(part);
+    let start = count_before(Stop::NoBlank, part);
     number_at(&part[start..], most)
 }
 

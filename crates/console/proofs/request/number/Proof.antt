@@ -5,8 +5,8 @@ use Rattle.console.proofs.request.number.Tie as tie
 use mathlib.Core.Path.{_∙_}
 use Rattle.console.specs.laws.Parts.{number-slice}
 
-blanks-requires : tie.Need-blanks-requires
-blanks-requires c κs = search needs
+count-before-requires : tie.Need-count-before-requires
+count-before-requires c κs = search needs
 
 sub-number-at : tie.Need-sub-number-at
 sub-number-at c = search needs
@@ -22,13 +22,13 @@ number-at-requires c κs = search needs
 
 returns : tie.Need-returns
 returns c =
-    (c .number-at .ensures .0 ∙ number-slice _ _ _ (c .before .before .blanks .ensures .0), c .number-at .ensures .1)
+    (c .number-at .ensures .0 ∙ number-slice _ _ _ (c .before .before .count-before .ensures .0), c .number-at .ensures .1)
 
 pub number-spec : {M : Type 1} → statement M
 number-spec =
     tie.close
     (tie.spec
-    blanks-requires
+    count-before-requires
     sub-number-at
     part-number-at-start
     part-number-at-end
