@@ -168,19 +168,29 @@ def with_fewer(form, said):
     return "?" if said.startswith("refused") and int(said.split()[1]) >= form.listed else said
 
 
-def streams(form, made, seed):
-    """Records of the images, each with the full list and with another one, in runs of at most as many bytes as are read."""
-    rnd = random.Random(seed)
+def in_runs(records, room):
+    """Records, each with what is expected of it, in runs of at most as many bytes as are read."""
     run, expected = bytearray(), []
-    for group, image, said in made:
-        for mask, answer in ((form.full, said), (form.another(rnd), with_fewer(form, said))):
-            one = record(form, mask, image)
-            if len(run) + len(one) > form.room:
-                yield bytes(run), expected
-                run, expected = bytearray(), []
-            run += one
-            expected.append((group, image, mask, answer))
+    for one, wanted in records:
+        if len(run) + len(one) > room:
+            yield bytes(run), expected
+            run, expected = bytearray(), []
+        run += one
+        expected.append(wanted)
     yield bytes(run), expected
+
+
+def streams(form, made, seed):
+    """Runs of records of the images, each with the full list and with another one."""
+    rnd = random.Random(seed)
+    return in_runs(
+        (
+            (record(form, mask, image), (group, image, mask, answer))
+            for group, image, said in made
+            for mask, answer in ((form.full, said), (form.another(rnd), with_fewer(form, said)))
+        ),
+        form.room,
+    )
 
 
 def shown(image):
@@ -327,16 +337,14 @@ def compare_writers(form, reference, number, seed):
 
 
 def pair_runs(made):
-    """Records of the pairs, in runs of at most as many bytes as are read."""
-    run, expected = bytearray(), []
-    for mask, firmware, eeprom, said in made:
-        one = board_runs.record(mask, firmware, eeprom)
-        if len(run) + len(one) > BOARD.room:
-            yield bytes(run), expected
-            run, expected = bytearray(), []
-        run += one
-        expected.append((mask, firmware, eeprom, said))
-    yield bytes(run), expected
+    """Runs of records of the pairs."""
+    return in_runs(
+        (
+            (board_runs.record(mask, firmware, eeprom), (mask, firmware, eeprom, said))
+            for mask, firmware, eeprom, said in made
+        ),
+        BOARD.room,
+    )
 
 
 def compare_choices(reference, number, seed):
