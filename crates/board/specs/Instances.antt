@@ -79,7 +79,7 @@ inside : (q : ℕ) → inLogo q ≡ true → InsideUnknown bare plain q
 unfolding shapeAt shapeOf listedShape endAt round16 next nth chain visit tab le16 le32 le64 all
 inside q e =
     let h = both (leb 0xF0 q) (ltb q 0x110) e in
-    record { number = 3; place = 0xE0; stands = refl; unknown = refl; past = leb-true 0xF0 q (h .0); before = ltb-true q 0x110 (h .1) }
+    record { number = 3; place = 0xE0; stands = refl; property = refl; past = leb-true 0xF0 q (h .0); before = ltb-true q 0x110 (h .1) }
 
 plain-changed : Alike bare plain changed
 unfolding le32 tab

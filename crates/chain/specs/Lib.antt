@@ -6,5 +6,7 @@ pub mod Keep
 pub mod Number
 pub mod All
 pub mod Fill
+pub mod Onward
+pub mod Inside
 pub mod Examples
 pub mod laws

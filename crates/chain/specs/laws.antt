@@ -17,3 +17,5 @@ pub mod Rising
 pub mod Apart
 pub mod Steps
 pub mod Fill
+pub mod Onward
+pub mod Inside

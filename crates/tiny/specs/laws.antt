@@ -2,6 +2,8 @@
 pub mod Major
 pub mod Strings
 pub mod Serials
+pub mod Agree
+pub mod Alike
 pub mod Same
 pub mod Resolved
 pub mod Shown

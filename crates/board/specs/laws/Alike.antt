@@ -13,7 +13,6 @@ use Rattle.board.specs.Items.{itemAs, itemAt}
 use Rattle.board.specs.declared.GpioRecordAnswer.{GpioRecordAnswer}
 use Rattle.board.specs.declared.ItemAnswer.{ItemAnswer}
 use Rattle.board.specs.declared.MapRecordAnswer.{MapRecordAnswer}
-use Rattle.chain.specs.laws.Apart.{Apart, chain-apart}
 use Rattle.board.specs.laws.Shown.{header-same, fields-same, item-same, map-record-at-same, gpio-record-at-same}
 use Rattle.board_layout.specs.Layout.{lengthAt, shapeAt, structLen, endAt, next, structures, mapAt, recordSize, dataOffset, records}
 use Rattle.board_layout.specs.Places.{headSize, Crc32, MapData, mapRecordSize}
@@ -28,10 +27,12 @@ use Rattle.board_rules.specs.laws.Accepted.{accepted-count, header-is, header-l
 use Rattle.board_rules.specs.laws.Tables.{Holds, fields-hold, Whole, gpio-whole}
 use Rattle.board_rules.specs.laws.Walk.{Fits}
 use Rattle.chain.specs.All.{All}
+use Rattle.chain.specs.Inside.{Inside}
 use Rattle.chain.specs.Nth.{nth}
 use Rattle.chain.specs.declared.Found.{Found}
 use Rattle.chain.specs.declared.Found.the-variants.{At, Nothing}
 use Rattle.chain.specs.laws.Chain.{chain-more}
+use Rattle.chain.specs.laws.Inside.{inside-own}
 use Rattle.chain.specs.laws.Nth.{nth-all, all-of-nth}
 use Rattle.chain.specs.laws.Places.{chain-all}
 use Rattle.kinds.specs.declared.Kinds.{Kinds}
@@ -49,13 +50,8 @@ abbrev pub Stands : List ℕ → ℕ → ℕ → Type 0
 Stands s i p = nth (structures s) i ≡ At p
 
 -- the place lies "inside" a structure that the list does not know: in "its data: .. past the generic head"
-pub record InsideUnknown (k : Kinds) (s : List ℕ) (q : ℕ) : Type 0 where
-  pub number : ℕ
-  pub place : ℕ
-  pub stands : Stands s number place
-  pub unknown : knows k (shapeAt s place) ≡ false
-  pub past : place + headSize ≤ q
-  pub before : q < endAt s place
+abbrev pub InsideUnknown : Kinds → List ℕ → ℕ → Type 0
+InsideUnknown k s q = Inside (structures s) (λ p. knows k (shapeAt s p) ≡ false) (λ p. p + headSize) (endAt s) q
 
 -- "two .. images of one length that differ only inside items that it does not know and in their check fields". "An image's length is .. StructLen; what is
 -- lent past it may differ."
@@ -111,12 +107,8 @@ module _ (k : Kinds) (s t : List ℕ) (c : ℕ) (e : judged k s ≡ Accepted c) 
   -- ---- the bytes of a structure
   -- where a byte of it lies inside one that is not known, that is itself
   own : (i p q : ℕ) → Stands s i p → p ≤ q → q < next s p → (u : InsideUnknown k s q) → u .place ≡ p
-  own i p q at a b u = go (chain-apart (next s) (structLen s) (next-grows s) 0 i (u .number) p (u .place) at (u .stands))
-    where
-      go : Apart (next s) (structLen s) (next-grows s) p (u .place) → u .place ≡ p
-      go (inl d) = sym d
-      go (inr (inl h)) = absurd (omega (arith, b, h, u .past))
-      go (inr (inr h)) = absurd (omega (arith, a, h, u .before, end-next s (u .place)))
+  own =
+      inside-own (next s) (structLen s) (next-grows s) 0 (λ p. knows k (shapeAt s p) ≡ false) (λ p. p + headSize) (endAt s) (λ p. omega arith) (end-next s)
 
   -- the head agrees
   pub head-alike : (i p : ℕ) → Stands s i p → Same s t p (p + headSize)
@@ -140,7 +132,7 @@ module _ (k : Kinds) (s t : List ℕ) (c : ℕ) (e : judged k s ≡ Accepted c) 
       go (inr (inl h)) = absurd (never h)
       go (inr (inr u)) =
           absurd
-          (false≢true (sym (u .unknown) ∙ ap (λ (x : ℕ). knows k (shapeAt s x)) (own i p q at a (omega (arith, b, end-next s p)) u) ∙ known))
+          (false≢true (sym (u .property) ∙ ap (λ (x : ℕ). knows k (shapeAt s x)) (own i p q at a (omega (arith, b, end-next s p)) u) ∙ known))
 
   -- one past the header agrees whole
   pub known-alike : (i p : ℕ) → Stands s i p → 0x20 ≤ p → knows k (shapeAt s p) ≡ true → Same s t p (endAt s p)
@@ -197,7 +189,7 @@ module _ (k : Kinds) (s t : List ℕ) (c : ℕ) (e : judged k s ≡ Accepted c) 
             number = u .number;
             place = u .place;
             stands = ap (λ (l : List ℕ). nth l (u .number)) (sym structures-alike) ∙ u .stands;
-            unknown = ap (knows k) (sym (shape-same s t (u .place) head)) ∙ u .unknown;
+            property = ap (knows k) (sym (shape-same s t (u .place) head)) ∙ u .property;
             past = u .past;
             before = omega (arith, u .before, end-same s t (u .place) head);
           }

@@ -31,11 +31,11 @@ use Rattle.verdict.specs.Said.{says, refused}
 use Rattle.verdict.specs.declared.Judged.the-variants.{Accepted}
 
 -- ---- a known structure has fields
-abbrev Filled : Item → Type 0
+abbrev pub Filled : Item → Type 0
 Filled (Item.Known x) = Unit {0}
 Filled Item.NotKnown = ⊥
 
-known-filled : (k : Kinds) (s : List ℕ) (p : ℕ) (a : Shape) → knows k a ≡ true → Filled (itemAs s p a)
+pub known-filled : (k : Kinds) (s : List ℕ) (p : ℕ) (a : Shape) → knows k a ≡ true → Filled (itemAs s p a)
 known-filled k s p Eeprom e = tt
 known-filled k s p EeprMap e = tt
 known-filled k s p BrdInfo e = tt

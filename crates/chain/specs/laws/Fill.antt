@@ -34,7 +34,7 @@ module _ {A : Type 0} where
       ap₂ (λ (l : List A) (x : A). l ++ (x ∷ [])) (tab-agree f g n (λ i k. h i (omega arith))) (h n (omega arith))
 
   -- n + 1 values from place p on: the one at p, and n from the next place on
-  tab-front : (f : ℕ → A) (n : ℕ) → tab f (suc n) ≡ f 0 ∷ tab (λ i. f (suc i)) n
+  pub tab-front : (f : ℕ → A) (n : ℕ) → tab f (suc n) ≡ f 0 ∷ tab (λ i. f (suc i)) n
   unfolding tab
   tab-front f zero = refl
   tab-front f (suc n) = ap (λ (l : List A). l ++ (f (suc n) ∷ [])) (tab-front f n)

@@ -56,7 +56,7 @@ marked-holds P x (row ∷ rows) a m = go (eqb x (row .0)) refl (λ later. marked
     go false e rest m = rest m
 
 -- fields other than "not known"
-abbrev Filled : FieldValues → Type 0
+abbrev pub Filled : FieldValues → Type 0
 Filled (FieldValues.pool n p l) = Unit {0}
 Filled (FieldValues.serial r) = Unit {0}
 Filled (FieldValues.flags b) = Unit {0}
@@ -65,7 +65,7 @@ Filled (FieldValues.identity x) = Unit {0}
 Filled (FieldValues.batched x b) = Unit {0}
 Filled FieldValues.notKnown = ⊥
 
-listed-filled : (k : Kinds) (s : List ℕ) (x : Pool) (p tag : ℕ) → listed k (Tag tag) ≡ true → Filled (fieldValues s (fieldsAt s x (shapeOf tag) p))
+pub listed-filled : (k : Kinds) (s : List ℕ) (x : Pool) (p tag : ℕ) → listed k (Tag tag) ≡ true → Filled (fieldValues s (fieldsAt s x (shapeOf tag) p))
 unfolding listed tags shapeOf
 listed-filled k s x p tag on =
     marked-holds (λ n. Filled (fieldValues s (fieldsAt s x (shapeOf n) p))) tag (tags k) (tt, (tt, (tt, (tt, (tt, (tt, (tt, (tt, tt)))))))) on

@@ -7,6 +7,7 @@ use mathlib.Core.Path.{_≡_, refl, ap, subst, _∙_}
 use native.Mathlib.Omega.{arith}
 use lib.Dec.{eqb}
 use borrow.Author.Tests.{eqb-true}
+use Rattle.chain.specs.All.{All}
 use Rattle.chain.specs.First.{first, when}
 use Rattle.chain.specs.declared.Found.{Found}
 use Rattle.chain.specs.declared.Found.the-variants.{At, Nothing}
@@ -28,16 +29,22 @@ pub record Known (k : Kinds) (s : List ℕ) (tag p : ℕ) : Type 0 where
   pub mark : listed k (Tag tag) ≡ true
   pub own : byte s p ≡ tag
 
--- what a search for a known item finds is one
-pub known-found : (k : Kinds) (s : List ℕ) (tag p : ℕ) → first (knownOf k s tag) (items s) ≡ At p → Known k s tag p
-known-found k s tag p e =
-    let h : Hit (knownOf k s tag) (items s) p = first-hit (knownOf k s tag) (items s) p e in
-    let q = h .item in
-    let test : Bool = listed k (Tag tag) && eqb (byte s q) tag in
-    let t = and-eq-true-iff (listed k (Tag tag)) (eqb (byte s q) tag) .0 (when-test test q p (h .breaks)) in
-    let w : (3 ≤ q) × (q < checkPlace s) = hit-holds (knownOf k s tag) (λ x. (3 ≤ x) × (x < checkPlace s)) (items s) p (items-within s) h in
-    subst (Known k s tag) (when-place test q p (h .breaks))
-    (record { from = w .0; to = w .1; mark = t .0; own = eqb-true (byte s q) tag (t .1) })
+module _ (k : Kinds) (s : List ℕ) (tag p : ℕ) where
+  -- what a search for a known item finds has this tag, which is on the list; and what holds of each item holds of it
+  pub known-holds : (P : ℕ → Type 0) → All P (items s) → first (knownOf k s tag) (items s) ≡ At p → (listed k (Tag tag) ≡ true) × (byte s p ≡ tag) × P p
+  known-holds P a e =
+      let h : Hit (knownOf k s tag) (items s) p = first-hit (knownOf k s tag) (items s) p e in
+      let q = h .item in
+      let test : Bool = listed k (Tag tag) && eqb (byte s q) tag in
+      let t = and-eq-true-iff (listed k (Tag tag)) (eqb (byte s q) tag) .0 (when-test test q p (h .breaks)) in
+      subst (λ (x : ℕ). (listed k (Tag tag) ≡ true) × (byte s x ≡ tag) × P x) (when-place test q p (h .breaks))
+      (t .0, eqb-true (byte s q) tag (t .1), hit-holds (knownOf k s tag) P (items s) p a h)
+
+  -- so it is a known item
+  pub known-found : first (knownOf k s tag) (items s) ≡ At p → Known k s tag p
+  known-found e =
+      let h = known-holds (λ q. (3 ≤ q) × (q < checkPlace s)) (items-within s) e in
+      record { from = h .2 .0; to = h .2 .1; mark = h .0; own = h .1 }
 
 -- a claim about the pool, shown of the empty one and of the data of a listed pool item, holds
 pub pool-view :

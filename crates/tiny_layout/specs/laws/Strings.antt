@@ -72,6 +72,5 @@ module _ (s : List ℕ) (to : ℕ) where
 pub strings-within : (s : List ℕ) (pool : Pool) → All (λ p. (pool .from ≤ p) × (p < pool .to)) (strings s pool)
 strings-within s pool = chain-within (stringEnd s (pool .to)) (pool .to) (string-grows s (pool .to)) (pool .from)
 
-pub string-within : (s : List ℕ) (pool : Pool) (n p : ℕ) → nth (strings s pool) n ≡ At p → p < pool .to
-string-within s pool n p e =
-    nth-all (λ q. (pool .from ≤ q) × (q < pool .to)) (strings s pool) n p (strings-within s pool) e .1
+pub string-within : (s : List ℕ) (pool : Pool) (n p : ℕ) → nth (strings s pool) n ≡ At p → (pool .from ≤ p) × (p < pool .to)
+string-within s pool n p e = nth-all (λ q. (pool .from ≤ q) × (q < pool .to)) (strings s pool) n p (strings-within s pool) e

@@ -3,7 +3,7 @@
 use Prim.Native.Nat.{ℕ, _+_, _≤_, _<_}
 use mathlib.Core.Bool.{true, false, not, _&&_, _||_, and-eq-true-iff}
 use mathlib.Core.List.{List}
-use mathlib.Core.Path.{_≡_, refl, subst}
+use mathlib.Core.Path.{_≡_, refl}
 use native.Mathlib.Omega.{arith}
 use lib.Dec.{eqb, ltb, leb}
 use lib.ListN.{length, take}
@@ -13,7 +13,7 @@ use Rattle.chain.specs.First.{first}
 use Rattle.chain.specs.declared.Found.{Found}
 use Rattle.chain.specs.declared.Found.the-variants.{At, Nothing}
 use Rattle.chain.specs.laws.All.{all-map, all-both}
-use Rattle.chain.specs.laws.First.{Hit, first-all, first-hit, hit-holds, when-place, when-nothing}
+use Rattle.chain.specs.laws.First.{first-all, when-nothing}
 use Rattle.chain.specs.laws.Ranges.{range-none}
 use Rattle.crc.specs.Crc8.{crc8}
 use Rattle.kinds.specs.Kinds.{listed}
@@ -27,6 +27,7 @@ use Rattle.tiny_layout.specs.Strings.{isMarked, letter, texts}
 use Rattle.tiny_layout.specs.Tags.{shapeOf, indexCount}
 use Rattle.tiny_layout.specs.declared.Shape.{Shape}
 use Rattle.tiny_layout.specs.laws.Layout.{items-within}
+use Rattle.tiny_layout.specs.laws.Pool.{known-holds}
 use Rattle.tiny_rules.specs.Judged.{rules, judged}
 use Rattle.tiny_rules.specs.Rules.{noCharacter, endUnmarked, rule2, rule3, rule4, rule5, passes, rule6, reserved, rule7, early, rule8, rule9, onKnown, badIndex, rule10, badField, rule11}
 use Rattle.chain.specs.laws.Checks.{neither, second-fails, kept-equal, under-mark}
@@ -63,11 +64,7 @@ unfolding pool
 unpassed-pool k s e = go (first (knownOf k s 0x01) (items s)) refl
   where
     go : (f : Found) → first (knownOf k s 0x01) (items s) ≡ f → poolAt s f .to ≤ checkPlace s
-    go (At p) d =
-        let h : Hit (knownOf k s 0x01) (items s) p = first-hit (knownOf k s 0x01) (items s) p d in
-        subst (λ (q : ℕ). next s q ≤ checkPlace s)
-        (when-place (listed k (Tag 0x01) && eqb (byte s (h .item)) 0x01) (h .item) p (h .breaks))
-        (hit-holds (knownOf k s 0x01) (λ q. (3 ≤ q) × (next s q ≤ checkPlace s)) (items s) p (unpassed-fit s e) h .1)
+    go (At p) d = known-holds k s 0x01 p (λ q. (3 ≤ q) × (next s q ≤ checkPlace s)) (unpassed-fit s e) d .2 .1
     go Nothing d = omega arith
 
 -- an image that breaks no rule is accepted, with the count of its items

@@ -1,7 +1,7 @@
 -- The judge reads the L bytes of an image and nothing lent past them: two images that agree on the first one's L bytes, both lent whole, get one
 -- answer, a refusal included. The tables of rules agree rule by rule; the rules from 9 on read data, which lie within the L bytes where rule 6 is
 -- not broken. Assumes nothing.
-use Prim.Native.Nat.{ℕ, _+_, _≤_, _<_}
+use Prim.Native.Nat.{ℕ, _+_, _≤_}
 use mathlib.Core.Bool.{Bool, cond, not, _&&_, _||_}
 use mathlib.Core.List.{List}
 use mathlib.Core.Path.{_≡_, refl, sym, ap, ap₂, _∙_}
@@ -24,15 +24,15 @@ use Rattle.kinds.specs.declared.Kind.the-variants.{Tag}
 use Rattle.kinds.specs.declared.Kinds.{Kinds}
 use Rattle.octets.specs.Bytes.{byte}
 use Rattle.octets.specs.Label.{isText}
-use Rattle.octets.specs.laws.Same.{Same, same-part, le16-same, take-same}
+use Rattle.octets.specs.laws.Same.{Same, le16-same, take-same}
 use Rattle.tiny_layout.specs.Layout.{total, checkPlace, dataAt, next, items}
 use Rattle.tiny_layout.specs.Pool.{pool}
 use Rattle.tiny_layout.specs.Strings.{isMarked, letter, texts}
 use Rattle.tiny_layout.specs.Tags.{shapeOf, indexCount, fieldBytes}
 use Rattle.tiny_layout.specs.declared.Pool.{Pool}
 use Rattle.tiny_layout.specs.declared.Shape.{Shape}
-use Rattle.tiny_layout.specs.laws.Layout.{next-grows, items-within}
-use Rattle.tiny_layout.specs.laws.Same.{total-same, check-same, tag-same, data-same, next-same, items-same, pool-same, texts-same}
+use Rattle.tiny_layout.specs.laws.Layout.{data-within}
+use Rattle.tiny_layout.specs.laws.Same.{tag-same, data-same, next-same, texts-same, total-same, check-same, part-same, heads-same, items-same, pool-same}
 use Rattle.tiny_layout.specs.laws.Tags.{fields-within, indexes-within}
 use Rattle.tiny_rules.specs.Judged.{rules, judged}
 use Rattle.tiny_rules.specs.Rules.{rule1, rule2, rule3, rule4, rule5, passes, rule6, reserved, rule7, early, rule8, unfit, rule9, onKnown, beyond, badIndex, rule10, isMajor, isMinor, isBatch, badRevision, badBatch, badField, rule11}
@@ -46,27 +46,27 @@ module _ (s t : List ℕ) (long : 4 ≤ total s) (same : Same s t 0 (total s)) w
   along-same P a f g h =
       first-agree f g (items s) (all-map P (λ p. f p ≡ g p) h (items s) a) ∙ ap (first g) (items-same s t long same)
 
-  -- rules 6, 7 and 8 read what tells where an item starts and ends
+  -- rules 6, 7 and 8 read the heads of the items
   rule6-same : rule6 s ≡ rule6 t
   unfolding rule6
   rule6-same =
-      along-same (λ p. (3 ≤ p) × (p < checkPlace s)) (items-within s) (passes s) (passes t)
-      (λ p w i.
+      along-same (λ p. Same s t p (dataAt s p)) (heads-same s t long same) (passes s) (passes t)
+      (λ p head i.
       let end = check-same s t long same i in
-      when (ltb end (data-same s t long same p (w .1) i) || ltb end (next-same s t long same p (w .1) i)) p)
+      when (ltb end (data-same s t p head i) || ltb end (next-same s t p head i)) p)
 
   rule7-same : rule7 s ≡ rule7 t
   unfolding rule7
   rule7-same =
-      along-same (λ p. (3 ≤ p) × (p < checkPlace s)) (items-within s) (reserved s) (reserved t)
-      (λ p w i. when (eqb (tag-same s t long same p (w .1) i) 0x00) p)
+      along-same (λ p. Same s t p (dataAt s p)) (heads-same s t long same) (reserved s) (reserved t)
+      (λ p head i. when (eqb (tag-same s t p head i) 0x00) p)
 
   rule8-same : (k : Kinds) → rule8 k s ≡ rule8 k t
   unfolding rule8
   rule8-same k =
-      along-same (λ p. (3 ≤ p) × (p < checkPlace s)) (items-within s) (early k s) (early k t)
-      (λ p w i.
-      when (listed k (Tag 0x01) && eqb (tag-same s t long same p (w .1) i) 0x01 && ltb (next-same s t long same p (w .1) i) (check-same s t long same i)) p)
+      along-same (λ p. Same s t p (dataAt s p)) (heads-same s t long same) (early k s) (early k t)
+      (λ p head i.
+      when (listed k (Tag 0x01) && eqb (tag-same s t p head i) 0x01 && ltb (next-same s t p head i) (check-same s t long same i)) p)
 
   -- ---- the rules on data, where rule 6 is not broken
   module _ (fit : rule6 s ≡ Nothing) (k : Kinds) where
@@ -87,16 +87,17 @@ module _ (s t : List ℕ) (long : 4 ≤ total s) (same : Same s t 0 (total s)) w
     known-same f g agree =
         along-same (λ p. (3 ≤ p) × (next s p ≤ checkPlace s)) (unpassed-fit s fit) (onKnown k s f) (onKnown k t g)
         (λ p w.
-        let h : p < checkPlace s = omega (arith, w .1, next-grows s p) in
+        let head : Same s t p (dataAt s p) = part-same s t long same p (dataAt s p) (omega (arith, w .1, data-within s p)) in
         ap (λ (r : Found). cond (listed k (Tag (byte s p))) r Nothing)
         (agree (shapeOf (byte s p)) (dataAt s p) (omega (arith, w .1, fields-within s p)))
-        ∙ ap₂ (λ (tag start : ℕ). cond (listed k (Tag tag)) (g (shapeOf tag) start) Nothing) (tag-same s t long same p h) (data-same s t long same p h))
+        ∙ ap₂ (λ (tag start : ℕ). cond (listed k (Tag tag)) (g (shapeOf tag) start) Nothing) (tag-same s t p head) (data-same s t p head))
 
     -- rule 10: the string counts are equal, and the indexes are
     count-same : length (texts s (pool k s)) ≡ length (texts t (pool k t))
     count-same =
         ap length
-        (texts-same s t long same (pool k s) (omega (arith, unpassed-pool k s fit)) ∙ ap (texts t) (pool-same s t long same k))
+        (texts-same s t (pool k s) (part-same s t long same (pool k s .from) (pool k s .to) (omega (arith, unpassed-pool k s fit)))
+        ∙ ap (texts t) (pool-same s t long same k))
 
     index-same : (count : ℕ) (a : Shape) (start : ℕ) → start + fieldBytes a ≤ checkPlace s → badIndex s count a start ≡ badIndex t count a start
     unfolding badIndex
@@ -164,7 +165,7 @@ module _ (s t : List ℕ) (long : 4 ≤ total s) (same : Same s t 0 (total s)) w
     unfolding rule5
     rule5-same =
         ap₂ (λ (b c : ℕ). when (not (eqb b c)) (checkPlace s)) (same (checkPlace s) (omega arith) (omega arith))
-        (ap crc8 (take-same s t (checkPlace s) (same-part s t 0 (total s) 0 (checkPlace s) (omega arith) (omega arith) same) (omega arith) (omega arith)))
+        (ap crc8 (take-same s t (checkPlace s) (part-same s t long same 0 (checkPlace s) (omega arith)) (omega arith) (omega arith)))
         ∙ ap (λ (n : ℕ). when (not (eqb (byte t n) (crc8 (take n t)))) n) (check-same s t long same)
 
     rules-same : (k : Kinds) → Agree (rules k s) (rules k t)
