@@ -1,0 +1,61 @@
+-- Demand 2: "An image is accepted exactly when the rules of the layout papers and the build paper hold. Each field shown is the field those rules define. What
+-- the writers write is accepted and reads back as given; an accepted image that a writer can make is rebuilt to the last byte." `Demand2` is the claim; it is
+-- proved in proofs/Demand2. Assumes nothing.
+use Prim.Native.Nat.{ℕ, _<_, _≤_}
+use mathlib.Core.Bool.{true}
+use mathlib.Core.List.{List, [], _++_}
+use mathlib.Core.Logic.{_↔_}
+use mathlib.Core.Path.{_≡_}
+use lib.ListN.{length, getD, take, drop}
+use Rattle.board_layout.specs.Layout.{structLen}
+use Rattle.board_writer.specs.Parts as board-parts
+use Rattle.board_writer.specs.PartsOf as board-read
+use Rattle.board_writer.specs.Written as board-writer
+use Rattle.board_writer.specs.laws.Written as board-back
+use Rattle.chain.specs.Nth.{nth}
+use Rattle.chain.specs.declared.Found.the-variants.{At}
+use Rattle.kinds.specs.Kinds.{full}
+use Rattle.kinds.specs.declared.Kinds.{Kinds}
+use Rattle.octets.specs.Bytes.{Octets}
+use Rattle.promises.specs.Answers.{answers}
+use Rattle.promises.specs.Demand1.{rules}
+use Rattle.promises.specs.Hidden.{hasPool}
+use Rattle.reader.specs.Formats.{places}
+use Rattle.reader.specs.Items.{poolOf, itemAt}
+use Rattle.reader.specs.Values.{itemValues}
+use Rattle.reader.specs.declared.Format.{Format}
+use Rattle.reader.specs.declared.Format.the-variants.{Tiny, Board}
+use Rattle.tiny.specs.Values.{text}
+use Rattle.tiny_layout.specs.Layout.{total}
+use Rattle.tiny_layout.specs.Pool.{pool}
+use Rattle.tiny_layout.specs.Strings.{texts}
+use Rattle.tiny_writer.specs.Image as tiny-parts
+use Rattle.tiny_writer.specs.PartsOf as tiny-read
+use Rattle.tiny_writer.specs.Written as tiny-writer
+use Rattle.tiny_writer.specs.laws.Written as tiny-back
+use Rattle.verdict.specs.Said.{says, refused, writeSaid}
+use Rattle.verdict.specs.laws.Accepted.{Clear}
+
+pub record Demand2 : Type 0 where
+  -- "An image is accepted exactly when the rules .. hold": no rule of the table is broken. The count is that of the items on the walk
+  pub accepted : (f : Format) (k : Kinds) (s : List ℕ) (n : ℕ) → (answers f k s .judge ≡ says n) ↔ (Clear (rules f k s) × (length (places f s) ≡ n))
+  -- "Each field shown is the field those rules define": item i shows what the tables define at its place
+  pub item : (f : Format) (k : Kinds) (s : List ℕ) (n : ℕ) → answers f k s .judge ≡ says n → (i p : ℕ) → nth (places f s) i ≡ At p
+      → answers f k s .item i ≡ says (itemValues s (itemAt f k s (poolOf f k s) p))
+  -- string i is text i of the split of the pool, and 42 comes where there is none
+  pub string : (k : Kinds) (s : List ℕ) (n : ℕ) → answers Tiny k s .judge ≡ says n → hasPool k ≡ true → (i : ℕ) → i < length (texts s (pool k s))
+      → answers Tiny k s .further .string i ≡ says (text (getD (texts s (pool k s)) i []))
+  pub noString : (k : Kinds) (s : List ℕ) (n : ℕ) → answers Tiny k s .judge ≡ says n → hasPool k ≡ true → (i : ℕ) → length (texts s (pool k s)) ≤ i
+      → answers Tiny k s .further .string i ≡ refused 42 0
+  -- "What the writers write is accepted and reads back as given". (A board reader refuses over 65,536 bytes, so it is asked of as many at most.)
+  pub tinyReadsBack : (x : tiny-parts.Parts) (b : List ℕ) (n : ℕ) → writeSaid (tiny-writer.written x b .0) ≡ says n → tiny-back.ReadsBack x (tiny-writer.written x b .1)
+  pub boardReadsBack : (x : board-parts.Parts) → board-parts.Fits x → (b : List ℕ) (n : ℕ) → writeSaid (board-writer.written x b .0) ≡ says n
+      → (m : ℕ) → n ≤ m → m ≤ 65536 → board-back.ReadsBack x (take m (board-writer.written x b .1))
+  -- "an accepted image that a writer can make is rebuilt to the last byte": "if it is tiny, or a board without `$PromSig` and with minor 0 in its first three
+  -- structures". (L is a byte, and images are of bytes.)
+  pub tinyRebuilt : (s : List ℕ) (n : ℕ) → answers Tiny full s .judge ≡ says n → total s < 256 → (b : List ℕ) → total s ≤ length b
+      → (writeSaid (tiny-writer.written (tiny-read.partsOf s) b .0) ≡ says (total s))
+      × (tiny-writer.written (tiny-read.partsOf s) b .1 ≡ take (total s) s ++ drop (total s) b)
+  pub boardRebuilt : (s : List ℕ) (n : ℕ) → answers Board full s .judge ≡ says n → board-read.Rebuildable s → Octets s → (b : List ℕ) → structLen s ≤ length b
+      → (writeSaid (board-writer.written (board-read.partsOf s) b .0) ≡ says (structLen s))
+      × (board-writer.written (board-read.partsOf s) b .1 ≡ take (structLen s) s ++ drop (structLen s) b)

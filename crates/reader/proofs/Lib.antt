@@ -1,0 +1,3 @@
+-- What several proofs share. Assumes nothing.
+pub mod Held
+pub mod Locals
