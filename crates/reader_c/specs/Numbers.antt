@@ -1,4 +1,4 @@
--- What C passes and gets as numbers: the format, and the answer for the list. Assumes nothing.
+-- What C passes and gets as numbers: the format, the answer for the list, and what a step shows. Assumes nothing.
 use Prim.Native.Nat.{ℕ, _+_, _*_, _%_}
 use mathlib.Core.Bool.{cond}
 use mathlib.Core.List.{List}
@@ -6,18 +6,35 @@ use lib.Dec.{eqb}
 use Rattle.reader.specs.declared.Entry.{Entry}
 use Rattle.reader.specs.declared.Format.{Format}
 use Rattle.reader.specs.declared.Format.the-variants.{Tiny, Board}
+use Rattle.reader.specs.declared.Item.{Item}
 use Rattle.reader.specs.declared.ListAnswer.{ListAnswer}
-use Rattle.reader.specs.declared.ListAnswer.the-variants.{Filled, Refused}
+use Rattle.reader.specs.declared.StepAnswer.{StepAnswer}
+use Rattle.verdict.specs.declared.Refusal.{Refusal}
 
 -- 0 for tiny images, any other number for board images
 abbrev pub formatOf : ℕ → Format
 formatOf n = cond (eqb n 0) Tiny Board
 
--- the refusal's number in bits 32 to 39, 0 where there is none; in bits 0 to 31 the count, or the refusal's place
+-- a refusal: its number in bits 32 to 39, its place in bits 0 to 31
+abbrev pub refusalNumber : Refusal → ℕ
+refusalNumber r = r .number * 0x100000000 + r .place % 0x100000000
+
+-- the answer for the list: the count, or the refusal
 abbrev pub listNumber : ListAnswer → ℕ
-listNumber (Filled count) = count % 0x100000000
-listNumber (Refused r) = r .number * 0x100000000 + r .place % 0x100000000
+listNumber (ListAnswer.Filled count) = count % 0x100000000
+listNumber (ListAnswer.Refused r) = refusalNumber r
 
 -- the answer as a number, and what the lent list then holds
 abbrev pub numbered : ListAnswer × List Entry → ℕ × List Entry
 numbered x = (listNumber (x .0), x .1)
+
+-- what a step shows: the item's place; bit 40 where none is left, bit 41 where no step was made; or the refusal
+abbrev pub itemPlace : Item → ℕ
+itemPlace (Item.Tiny x) = x .place % 0x100000000
+itemPlace (Item.Board x) = x .place % 0x100000000
+
+abbrev pub stepNumber : StepAnswer → ℕ
+stepNumber StepAnswer.Nothing = 0x20000000000
+stepNumber (StepAnswer.Shown x) = itemPlace x
+stepNumber StepAnswer.NoneLeft = 0x10000000000
+stepNumber (StepAnswer.Refused r) = refusalNumber r

@@ -1,14 +1,20 @@
 // The reader, for C. A slice is a pointer and a length:
-// uint64_t reader_list(uint32_t format, const uint8_t *image, size_t n, uint32_t kinds, Entry *out, size_t room).
+// uint64_t reader_list(uint32_t format, const uint8_t *image, size_t n, uint32_t kinds, Entry *out, size_t room);
+// uint64_t reader_step(uint32_t format, const uint8_t *image, size_t n, uint32_t kinds, size_t number).
 use kinds::Kinds;
 use reader::Entry;
 use reader::Format;
+use reader::Item;
 use reader::ListAnswer;
+use reader::StepAnswer;
 use reader::list;
+use reader::step_numbered;
+use verdict::Refusal;
 ghost use mathlib.Core.Path.{_≡_};
 ghost use Rattle.kinds.specs.Kinds.{fromBits};
 ghost use Rattle.reader.specs.Answers.{listOf};
-ghost use Rattle.reader_c.specs.Numbers.{formatOf, listNumber, numbered};
+ghost use Rattle.reader.specs.Walk.{stepNumbered};
+ghost use Rattle.reader_c.specs.Numbers.{formatOf, refusalNumber, listNumber, numbered, itemPlace, stepNumber};
 
 // The format of a number: 0 for tiny images, any other for board images.
 fn format_of(number: u32) -> Format
@@ -20,18 +26,45 @@ fn format_of(number: u32) -> Format
     Format::Board
 }
 
-// The answer for the list as one number: the refusal's number in bits 32 to 39, 0 where there is none; in bits 0 to 31 the count, or the refusal's place.
+// A refusal as one number: its number in bits 32 to 39, its place in bits 0 to 31.
+fn refusal_number(refusal: Refusal) -> u64
+    ensures { λ r. ⌜ r ≡ refusalNumber refusal ⌝ }
+{
+    let number = refusal.number as u64 * 0x1_0000_0000;
+    let place = refusal.place as u64 % 0x1_0000_0000;
+    let both = number + place;
+    both
+}
+
+// The answer for the list as one number: the count, or the refusal.
 fn list_number(answer: ListAnswer) -> u64
     ensures { λ r. ⌜ r ≡ listNumber answer ⌝ }
 {
     match answer {
         ListAnswer::Filled(count) => count as u64 % 0x1_0000_0000,
-        ListAnswer::Refused(refusal) => {
-            let number = refusal.number as u64 * 0x1_0000_0000;
-            let place = refusal.place as u64 % 0x1_0000_0000;
-            let both = number + place;
-            both
-        }
+        ListAnswer::Refused(refusal) => refusal_number(refusal),
+    }
+}
+
+// The place of an item.
+fn item_place(item: Item) -> u64
+    ensures { λ r. ⌜ r ≡ itemPlace item ⌝ }
+{
+    match item {
+        Item::Tiny(shown) => shown.place as u64 % 0x1_0000_0000,
+        Item::Board(shown) => shown.place as u64 % 0x1_0000_0000,
+    }
+}
+
+// What a step shows as one number: the item's place; bit 40 where none is left, bit 41 where no step was made; or the refusal.
+fn step_number(answer: StepAnswer) -> u64
+    ensures { λ r. ⌜ r ≡ stepNumber answer ⌝ }
+{
+    match answer {
+        StepAnswer::Nothing => 0x200_0000_0000,
+        StepAnswer::Shown(item) => item_place(item),
+        StepAnswer::NoneLeft => 0x100_0000_0000,
+        StepAnswer::Refused(refusal) => refusal_number(refusal),
     }
 }
 
@@ -42,4 +75,12 @@ pub extern "C" fn reader_list(format: u32, image: &[u8], kinds: u32, out: &mut [
 {
     let answer = list(format_of(format), image, Kinds::from_bits(kinds), out);
     list_number(answer)
+}
+
+// What the step of a number from a fresh walk shows, as one number.
+#[no_mangle]
+pub extern "C" fn reader_step(format: u32, image: &[u8], kinds: u32, number: usize) -> u64
+    ensures { λ r. ⌜ r ≡ stepNumber (stepNumbered (formatOf format) (fromBits kinds) (now (image .entry)) number) ⌝ }
+{
+    step_number(step_numbered(format_of(format), image, Kinds::from_bits(kinds), number))
 }
