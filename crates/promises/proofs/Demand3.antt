@@ -3,6 +3,7 @@ use Prim.Native.Nat.{ℕ, _≤_}
 use mathlib.Core.List.{List, _++_}
 use mathlib.Core.Path.{_≡_, refl, sym, ap, subst, _∙_}
 use native.Mathlib.Omega.{arith}
+use denote.Ref.{now}
 use lib.ListN.{length, drop, getD}
 use Rattle.board.specs.Values.{mapRecordSaid}
 use Rattle.board.specs.laws.Readers.{map-record-agrees}
@@ -21,11 +22,12 @@ use Rattle.promises.specs.Demand3.{Accepted, StringsOf, TwoReaders, asSt
 use Rattle.promises.specs.Hidden.{hideItem, hideStep, hideEntry, hideList, hideSaid, hideRecord, hideFurther, hidden}
 use Rattle.promises.specs.SameOutside.{SameOutside}
 use Rattle.reader.specs.Formats.{judged, places}
-use Rattle.reader.specs.Values.{ItemValues}
+use Rattle.reader.specs.Values.{ItemValues, stepSaid}
 use Rattle.reader.specs.declared.Entry.{Entry}
 use Rattle.reader.specs.declared.Format.{Format}
 use Rattle.reader.specs.declared.Format.the-variants.{Tiny, Board}
 use Rattle.reader.specs.laws.Formats.{accepted-count}
+use Rattle.reader.specs.laws.Walk.{walk-shows}
 use Rattle.tiny_rules.specs.laws.Shorter as tiny-rules
 use Rattle.verdict.specs.Said.{Said, says}
 use Rattle.verdict.specs.declared.Judged as verdict
@@ -142,9 +144,11 @@ same-items f k s n e =
 
 -- ---- the claim
 pub demand3 : (f : Format) → Demand3 f
+unfolding answers
 demand3 f =
     record {
       readers = λ longer shorter contains s a. two-readers longer shorter contains s f (a .0) (accepted-by f longer s (a .0) (a .1));
       images = λ k s t a b same. images-alike f k s t (a .0) (b .0) (accepted-by f k s (a .0) (a .1)) (accepted-by f k t (b .0) (b .1)) same;
+      walks = λ k s i. ap (stepSaid (now s)) (walk-shows f s k i);
       calls = λ k s n said. same-items f k s n (accepted-by f k s n said);
     }

@@ -1,10 +1,11 @@
 -- Demand 3: one claim about all calls, over any format. `Demand3` is the claim; it is proved in proofs/Demand3. Assumes nothing.
-use Prim.Native.Nat.{ℕ, _<_, _≤_}
+use Prim.Native.Nat.{ℕ, suc, _<_, _≤_}
 use mathlib.Core.Bool.{Bool, true, false}
 use mathlib.Core.List.{List}
 use mathlib.Core.Logic.{_⊎_, _↔_}
 use mathlib.Core.Path.{_≡_}
 use lib.ListN.{length, getD}
+use denote.Ref.{RefT, now}
 use Rattle.kinds.specs.Kinds.{Contains}
 use Rattle.kinds.specs.declared.Kind.{Kind}
 use Rattle.kinds.specs.declared.Kind.the-variants.{Tag, Signature}
@@ -13,7 +14,8 @@ use Rattle.promises.specs.Answers.{Answers, answers}
 use Rattle.promises.specs.Hidden.{hasPool, hasSerial, hidden}
 use Rattle.promises.specs.SameOutside.{Lacks, SameOutside}
 use Rattle.reader.specs.Values as reader
-use Rattle.reader.specs.Values.{FieldValues, ItemValues, StepValues}
+use Rattle.reader.specs.Values.{FieldValues, ItemValues, StepValues, stepSaid}
+use Rattle.reader.specs.Walk.{walkAfter}
 use Rattle.reader.specs.declared.Entry.{Entry}
 use Rattle.reader.specs.declared.Format.{Format}
 use Rattle.reader.specs.declared.Format.the-variants.{Tiny, Board}
@@ -100,5 +102,7 @@ pub record Demand3 (f : Format) : Type 0 where
   -- "Then take any one reader, and any two accepted images of one length that differ only inside items that it does not know and in their check fields.
   -- Whatever it is asked, it answers the same for both."
   pub images : (k : Kinds) (s t : List ℕ) → Accepted (answers f k s) → Accepted (answers f k t) → SameOutside f k s t → answers f k s ≡ answers f k t
+  -- "From a fresh walk, each step given the walk that the last returned": what the walk itself carries after step i is the walk's answer here
+  pub walks : (k : Kinds) (s : RefT (List ℕ)) (i : ℕ) → stepSaid (now s) (walkAfter f s k (suc i) .shows) ≡ answers f k (now s) .walk i
   -- within one reader: "the same items .. whether asked by number, for the list or along the walk"
   pub calls : (k : Kinds) (s : List ℕ) (count : ℕ) → answers f k s .judge ≡ says count → SameItems (answers f k s) count

@@ -5,4 +5,5 @@ pub mod Entries
 pub mod Answers
 pub mod Walk
 pub mod Values
+pub mod Examples
 pub mod laws

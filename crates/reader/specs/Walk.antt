@@ -49,7 +49,12 @@ freshWalk f s k = walkAt s f k (record { position = first f k (now s); shows = S
 abbrev pub stepped : Walk → Walk
 stepped w = walkAt (w .image) (w .format) (w .kinds) (stepAt (w .format) (w .kinds) (now (w .image)) (w .position))
 
--- ---- from a fresh walk, each step given the walk that the last returned: how far it is after n steps, and what step n shows, counted from 0
+-- from a fresh walk, each step given the walk that the last returned: the walk after n steps
+unfoldable pub walkAfter : Format → RefT (List ℕ) → Kinds → ℕ → Walk
+walkAfter f s k zero = freshWalk f s k
+walkAfter f s k (suc n) = stepped (walkAfter f s k n)
+
+-- ---- the same without the walk: how far it is after n steps, and what step n shows, counted from 0. (`laws/Walk`: this is what the walk carries)
 unfoldable pub walked : Format → Kinds → List ℕ → ℕ → Position
 walked f k s zero = first f k s
 walked f k s (suc n) = stepAt f k s (walked f k s n) .position

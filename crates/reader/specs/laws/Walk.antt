@@ -6,6 +6,7 @@ use mathlib.Core.List.{List}
 use mathlib.Core.Logic.{inl, inr}
 use mathlib.Core.Path.{_≡_, refl, sym, ap, _∙_}
 use native.Mathlib.Omega.{arith}
+use denote.Ref.{RefT, now}
 use lib.Dec.{ltb}
 use Rattle.chain.specs.First.{when}
 use Rattle.chain.specs.Nth.{nth}
@@ -18,11 +19,12 @@ use Rattle.chain.specs.laws.Onward.{nth-along}
 use Rattle.kinds.specs.declared.Kinds.{Kinds}
 use Rattle.reader.specs.Formats.{judged, start, end, next, places}
 use Rattle.reader.specs.Items.{poolOf, itemAt}
-use Rattle.reader.specs.Walk.{first, stepOn, stepIf, stepAt, walked, stepNumbered, stepsDue}
+use Rattle.reader.specs.Walk.{first, stepOn, stepIf, stepAt, walkAt, stepped, walkAfter, walked, stepNumbered, stepsDue}
 use Rattle.reader.specs.declared.Format.{Format}
 use Rattle.reader.specs.declared.Position.{Position}
 use Rattle.reader.specs.declared.StepAnswer.{StepAnswer}
 use Rattle.reader.specs.declared.Stepped.{Stepped}
+use Rattle.reader.specs.declared.Walk.{Walk}
 use Rattle.reader.specs.laws.Formats.{places-grow, accepted-count}
 use Rattle.verdict.specs.declared.Judged.{Judged}
 use Rattle.verdict.specs.declared.Judged.the-variants.{Accepted, Refused}
@@ -85,6 +87,16 @@ pub step-refused :
 unfolding stepNumbered stepAt
 step-refused f k s r e i =
     ap (λ (x : Position). stepAt f k s x .shows) (stays f k s r e i) ∙ ap (λ (j : Judged). stepIf f k s (first f k s) j .shows) e
+
+-- ---- the walk itself: after step n it carries the image, the format and the list that it was made with, and what step n shows
+pub walk-after : (f : Format) (s : RefT (List ℕ)) (k : Kinds) (n : ℕ) → walkAfter f s k (suc n) ≡ walkAt s f k (stepAt f k (now s) (walked f k (now s) n))
+unfolding walkAfter walked
+walk-after f s k zero = refl
+walk-after f s k (suc n) = ap stepped (walk-after f s k n)
+
+pub walk-shows : (f : Format) (s : RefT (List ℕ)) (k : Kinds) (n : ℕ) → walkAfter f s k (suc n) .shows ≡ stepNumbered f k (now s) n
+unfolding stepNumbered
+walk-shows f s k n = ap (λ (w : Walk). w .shows) (walk-after f s k n)
 
 -- ---- as many steps as there are items lead to the end, so the step after the last item shows what each later one shows
 pub steps-due : (f : Format) (k : Kinds) (s : List ℕ) (n : ℕ) → stepNumbered f k s (stepsDue (judged f k s) n) ≡ stepNumbered f k s n
