@@ -5,4 +5,3 @@ pub mod Answers
 pub mod Values
 pub mod Examples
 pub mod laws
-pub mod Instances

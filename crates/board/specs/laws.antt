@@ -2,6 +2,5 @@
 
 pub mod Exactly
 pub mod Shown
-pub mod Readers
 pub mod Alike
 pub mod Same

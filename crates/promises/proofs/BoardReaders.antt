@@ -5,7 +5,7 @@ use mathlib.Core.Bool.{Bool, true, false, cond, _&&_, _||_}
 use mathlib.Core.List.{List}
 use mathlib.Core.Path.{_≡_, refl, sym, ap, _∙_}
 use lib.Dec.{eqb}
-use Rattle.board.specs.Answers.{isGpio, gpioRecord, gpioRecordsAt, gpioRecordIf, gpioRecordNumbered}
+use Rattle.board.specs.Answers.{mapRecordIf, mapRecordNumbered, isGpio, gpioRecord, gpioRecordsAt, gpioRecordIf, gpioRecordNumbered}
 use Rattle.board.specs.Items as board
 use Rattle.board.specs.Items.{itemAs}
 use Rattle.board.specs.Values.{gpioRecordSaid}
@@ -89,8 +89,12 @@ module _ (longer shorter : Kinds) (contains : Contains longer shorter) (s : List
         known = knows-hidden p i;
       }
 
-  -- ---- a record of GPIO data, where both accept, by what the longer shows of its item
+  -- ---- where both accept: a record of the map, and one of GPIO data by what the longer shows of its item
   module _ (c : ℕ) (e : judged longer s ≡ Accepted c) (d : judged shorter s ≡ Accepted c) where
+    pub map-hidden : (n : ℕ) → mapRecordNumbered shorter s n ≡ mapRecordNumbered longer s n
+    unfolding mapRecordNumbered
+    map-hidden n = ap (mapRecordIf s n) d ∙ sym (ap (mapRecordIf s n) e)
+
     pub gpio-hidden : (i n : ℕ)
         → gpioRecordSaid (gpioRecordNumbered shorter s i n) ≡ hideRecord shorter (itemFrom (view Board longer s) (nth (structures s) i)) (gpioRecordSaid (gpioRecordNumbered longer s i n))
     unfolding gpioRecordNumbered board.itemAt

@@ -6,11 +6,10 @@ use native.Mathlib.Omega.{arith}
 use denote.Ref.{now}
 use lib.ListN.{length, drop, getD}
 use Rattle.board.specs.Values.{mapRecordSaid}
-use Rattle.board.specs.laws.Readers.{map-record-agrees}
 use Rattle.board_rules.specs.laws.Shorter as board-rules
 use Rattle.kinds.specs.Kinds.{Contains}
 use Rattle.kinds.specs.declared.Kinds.{Kinds}
-use Rattle.promises.proofs.BoardReaders.{board-item-hidden, board-entry-hidden, gpio-hidden}
+use Rattle.promises.proofs.BoardReaders.{board-item-hidden, board-entry-hidden, map-hidden, gpio-hidden}
 use Rattle.promises.proofs.Exactly.{entry-shown, unknown-exactly, undecoded-exactly, unlooked-exactly, nameless-exactly}
 use Rattle.promises.proofs.Given.{answers-equal, view, judge-given, item-given, walk-given, list-given}
 use Rattle.promises.proofs.Images.{SeenAlike, seen-alike}
@@ -56,7 +55,7 @@ module _ (longer shorter : Kinds) (contains : Contains longer shorter) (s : List
     name = λ b. name-hidden longer shorter contains s n e d b x;
   }
   further-hidden Board n e d = λ x. record {
-    mapRecord = λ i. mapRecordSaid (map-record-agrees longer shorter s n n e d i x);
+    mapRecord = λ i. mapRecordSaid (map-hidden longer shorter contains s n e d i x);
     gpioRecord = λ i m.
         (gpio-hidden longer shorter contains s n e d i m
         ∙ ap (λ (a : Said ItemValues). hideRecord shorter a (furtherAnswers Board longer s .gpioRecord i m)) (sym (item-given Board longer s n e i))) x;

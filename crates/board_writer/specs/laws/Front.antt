@@ -1,8 +1,8 @@
--- An image that is accepted, and another that agrees with it up to its StructLen, as does the image with other bytes after it: that one is accepted too if it is
--- not too long, and has the same `$PromSig`. Assumes nothing.
+-- An image that is accepted, and another that agrees with it up to its StructLen, as does the image with other bytes after it: that one has the same `$PromSig`,
+-- and is accepted too if it is not too long. Assumes nothing.
 use Prim.Native.Nat.{ℕ, _+_, _≤_}
 use mathlib.Core.List.{List, _++_}
-use mathlib.Core.Path.{_≡_, sym, _∙_}
+use mathlib.Core.Path.{_≡_, sym}
 use native.Mathlib.Omega.{arith}
 use lib.ListN.{length, length-append, List·getD-append}
 use Rattle.board_layout.specs.Layout.{structLen, structures}
@@ -10,8 +10,8 @@ use Rattle.board_layout.specs.Places.{headSize}
 use Rattle.board_layout.specs.laws.Same.{struct-len-same, head-same}
 use Rattle.board_rules.specs.Judged.{judged}
 use Rattle.board_rules.specs.Rules.{promSigAt}
-use Rattle.board_rules.specs.laws.Accepted.{lent-within, struct-len-within, structures-fit}
-use Rattle.board_rules.specs.laws.Same.{judged-same}
+use Rattle.board_rules.specs.laws.Accepted.{struct-len-within, structures-fit}
+use Rattle.board_rules.specs.laws.Front.{same-accepted}
 use Rattle.board_rules.specs.laws.Walk.{Fits}
 use Rattle.board_writer.specs.laws.Covered.{prom-sig-agree}
 use Rattle.chain.specs.laws.All.{all-map}
@@ -24,12 +24,7 @@ module _ (k : Kinds) (s t : List ℕ) (count : ℕ) (e : judged k s ≡ Accepted
   within : (0x30 ≤ structLen s) × (structLen s ≤ length s)
   within = struct-len-within k s count e
 
-  -- the other is accepted
-  pub same-accepted : structLen s ≤ length t → length t ≤ 65536 → judged k t ≡ Accepted count
-  same-accepted whole most =
-      sym (judged-same s t (within .0) same (within .1) whole (lent-within k s count e .1) most k) ∙ e
-
-  -- and has the same `$PromSig`
+  -- the other has the same `$PromSig`
   pub same-signed : promSigAt t ≡ promSigAt s
   same-signed =
       sym

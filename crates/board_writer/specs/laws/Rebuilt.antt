@@ -10,13 +10,14 @@ use Rattle.board_layout.specs.Layout.{structLen}
 use Rattle.board_layout.specs.Places.{Crc32, CrcLength}
 use Rattle.board_rules.specs.Judged.{judged}
 use Rattle.board_rules.specs.Rules.{promSigAt}
+use Rattle.board_rules.specs.laws.Front.{front-accepted}
 use Rattle.board_rules.specs.laws.Accepted.{lent-within, struct-len-within}
 use Rattle.board_writer.specs.Image.{image}
 use Rattle.board_writer.specs.Parts.{rule46}
 use Rattle.board_writer.specs.PartsOf.{partsOf, Rebuildable}
 use Rattle.board_writer.specs.Written.{written}
 use Rattle.board_writer.specs.laws.Check.{image-accepted}
-use Rattle.board_writer.specs.laws.Front.{same-accepted, same-signed}
+use Rattle.board_writer.specs.laws.Front.{same-signed}
 use Rattle.board_writer.specs.laws.Laid.{length-parts, laid-parts}
 use Rattle.board_writer.specs.laws.Order.{whole-records}
 use Rattle.board_writer.specs.laws.Records.{records-length}
@@ -47,8 +48,8 @@ module _ (s : List ℕ) (n : ℕ) (e : judged full s ≡ Accepted n) (r : Rebuil
   front-length : length front ≡ structLen s
   front-length = length-take-le (structLen s) s (within .1)
 
-  front-accepted : judged full front ≡ Accepted n
-  front-accepted = same-accepted full s front n e same (omega (arith, front-length)) (omega (arith, front-length, most))
+  accepted : judged full front ≡ Accepted n
+  accepted = front-accepted full s n e
 
   front-unsigned : promSigAt front ≡ Nothing
   front-unsigned = same-signed full s front n e same ∙ r .unsigned
@@ -60,7 +61,7 @@ module _ (s : List ℕ) (n : ℕ) (e : judged full s ≡ Accepted n) (r : Rebuil
         let laid = laid-parts s n e r octets in
         let field : (p : ℕ) → p + 4 ≤ 0x30 → le32 front p ≡ le32 s p =
         λ p h. sym (le32-same s front 0 (structLen s) same p (omega arith) (omega (arith, within .0))) in
-        image-accepted (partsOf s) full (le32 s Crc32) (le32 s CrcLength) n (ap (judged full) laid ∙ front-accepted)
+        image-accepted (partsOf s) full (le32 s Crc32) (le32 s CrcLength) n (ap (judged full) laid ∙ accepted)
         (ap (λ (t : List ℕ). le32 t Crc32) laid ∙ field Crc32 (omega arith)) (ap (λ (t : List ℕ). le32 t CrcLength) laid ∙ field CrcLength (omega arith))
         ∙ laid
 
@@ -78,7 +79,7 @@ module _ (s : List ℕ) (n : ℕ) (e : judged full s ≡ Accepted n) (r : Rebuil
           most = most;
           room = room;
           count = n;
-          accepted = ap (judged full) image-parts ∙ front-accepted;
+          accepted = ap (judged full) image-parts ∙ accepted;
           unsigned = ap promSigAt image-parts ∙ front-unsigned;
         }
 

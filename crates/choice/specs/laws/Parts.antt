@@ -1,14 +1,14 @@
 -- The part handed back is as long as the answer says, and is accepted as the lent image is: with the same list and the same count. Assumes nothing.
 use Prim.Native.Nat.{ℕ, _≤_}
 use mathlib.Core.List.{List, []}
-use mathlib.Core.Path.{_≡_, refl, sym, _∙_}
+use mathlib.Core.Path.{_≡_, refl, subst}
 use native.Mathlib.Omega.{arith}
 use lib.ListN.{length, take}
-use lib.Seq.{getD-take, length-take-le}
+use lib.Seq.{length-take-le}
 use Rattle.board_layout.specs.Layout.{structLen}
 use Rattle.board_rules.specs.Judged.{judged}
-use Rattle.board_rules.specs.laws.Accepted.{lent-within, struct-len-within}
-use Rattle.board_rules.specs.laws.Same.{judged-same}
+use Rattle.board_rules.specs.laws.Accepted.{struct-len-within}
+use Rattle.board_rules.specs.laws.Front.{front-accepted}
 use Rattle.choice.specs.Choice.{choiceOf, part, chosenOf}
 use Rattle.choice.specs.declared.ChoiceAnswer.{ChoiceAnswer}
 use Rattle.choice.specs.declared.ChoiceAnswer.the-variants.{Firmware, Eeprom, Neither}
@@ -34,17 +34,12 @@ Part k f e (Neither r) l = l ≡ []
 -- the first StructLen bytes of an accepted image
 handed : (k : Kinds) (s : List ℕ) (m n : ℕ) → judged k s ≡ Accepted m → structLen s ≡ n → Handed k s n (take n s)
 handed k s m n a h =
-    let w = struct-len-within k s m a in
-    let l = lent-within k s m a in
-    let d : length (take n s) ≡ n = length-take-le n s (omega (arith, w .1, h)) in
     record {
       count = m;
       whole = a;
-      alone =
-          sym (judged-same s (take n s) (omega (arith, w .0)) (λ q _ i. sym (getD-take n s q 0 (omega arith))) (w .1) (omega arith) (l .1) (omega (arith, l .1, w .1)) k)
-          ∙ a;
+      alone = subst (λ (i : ℕ). judged k (take i s) ≡ Accepted m) h (front-accepted k s m a);
       front = refl;
-      long = d;
+      long = length-take-le n s (omega (arith, struct-len-within k s m a .1, h));
     }
 
 module _ (k : Kinds) (f e : List ℕ) where

@@ -4,7 +4,7 @@
 use Prim.Native.Nat.{ℕ, _≤_}
 use mathlib.Core.List.{List}
 use mathlib.Core.Logic.{inl}
-use mathlib.Core.Path.{_≡_, refl, ap, _∙_}
+use mathlib.Core.Path.{_≡_, refl}
 use native.Mathlib.Omega.{arith}
 use lib.ListN.{length}
 use Rattle.kinds.specs.declared.Kinds.{Kinds}
@@ -18,6 +18,7 @@ use Rattle.tiny.specs.Values.{itemSaid, stringSaid}
 use Rattle.tiny.specs.laws.Alike.{Alike, numbered-alike, said-alike, looked-alike, string-alike, name-alike}
 use Rattle.verdict.specs.declared.Judged.{Judged}
 use Rattle.verdict.specs.declared.Refusal.{Refusal}
+use Rattle.verdict.specs.laws.Agree.{verdict-agree}
 
 module _ (s t : List ℕ) (long : 4 ≤ total s) (same : Same s t 0 (total s)) where
   alike : (k : Kinds) → Alike k s t
@@ -29,11 +30,7 @@ module _ (s t : List ℕ) (long : 4 ≤ total s) (same : Same s t 0 (total s)) w
         {A : Type 0} (f g : Judged → A)
         → ((c : ℕ) → judged k s ≡ Judged.Accepted c → f (Judged.Accepted c) ≡ g (Judged.Accepted c))
         → ((r : Refusal) → f (Judged.Refused r) ≡ g (Judged.Refused r)) → f (judged k s) ≡ g (judged k t)
-    verdict-same f g accepted refused = go (judged k s) refl ∙ ap g (judged-same s t long same whole other k)
-      where
-        go : (j : Judged) → judged k s ≡ j → f j ≡ g j
-        go (Judged.Accepted c) e = accepted c e
-        go (Judged.Refused r) e = refused r
+    verdict-same f g = verdict-agree f g (judged k s) (judged k t) (judged-same s t long same whole other k)
 
     -- the item of a number: the answer, and its values
     pub item-answer-same : (n : ℕ) → itemNumbered k s n ≡ itemNumbered k t n
