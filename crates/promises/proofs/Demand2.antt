@@ -23,7 +23,9 @@ use Rattle.reader.specs.Values.{itemValues, itemSaid}
 use Rattle.reader.specs.declared.Format.{Format}
 use Rattle.reader.specs.declared.Format.the-variants.{Tiny, Board}
 use Rattle.reader.specs.laws.Formats.{accepted-count}
-use Rattle.tiny.specs.laws.Resolved.{string-text, string-beyond}
+use Rattle.tiny.specs.Values.{nameSaid}
+use Rattle.tiny.specs.declared.NameAnswer.{NameAnswer}
+use Rattle.tiny.specs.laws.Resolved.{string-text, string-beyond, name-is-text}
 use Rattle.tiny_rules.specs.Judged as tiny-rules
 use Rattle.tiny_writer.specs.laws.Rebuilt as tiny-rebuilt
 use Rattle.tiny_writer.specs.laws.Written as tiny-written
@@ -64,6 +66,8 @@ demand2 =
       item = λ f k s n e. item-shown f k s n (accepted-by f k s n e);
       string = λ k s n e. string-text k s n (accepted-by Tiny k s n e);
       noString = λ k s n e. string-beyond k s n (accepted-by Tiny k s n e);
+      name = λ k s n e on p one b room.
+          ap (λ (a : NameAnswer × List ℕ). (nameSaid (a .0), a .1)) (name-is-text k s n (accepted-by Tiny k s n e) p one on b room);
       tinyReadsBack = tiny-written.written-reads-back;
       boardReadsBack = λ x fits b n e. board-written.written-reads-back x b n e fits;
       tinyRebuilt = λ s n e small b. tiny-rebuilt.rebuilt s n (accepted-by Tiny full s n e) b small;

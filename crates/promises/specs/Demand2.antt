@@ -12,11 +12,12 @@ use Rattle.board_writer.specs.Parts as board-parts
 use Rattle.board_writer.specs.PartsOf as board-read
 use Rattle.board_writer.specs.Written as board-writer
 use Rattle.board_writer.specs.laws.Written as board-back
+use Rattle.chain.specs.Keep.{only}
 use Rattle.chain.specs.Nth.{nth}
 use Rattle.chain.specs.declared.Found.the-variants.{At}
 use Rattle.kinds.specs.Kinds.{full}
 use Rattle.kinds.specs.declared.Kinds.{Kinds}
-use Rattle.octets.specs.Bytes.{Octets}
+use Rattle.octets.specs.Bytes.{Octets, byte}
 use Rattle.promises.specs.Answers.{answers}
 use Rattle.promises.specs.Demand1.{rules}
 use Rattle.promises.specs.Hidden.{hasPool}
@@ -25,8 +26,9 @@ use Rattle.reader.specs.Items.{poolOf, itemAt}
 use Rattle.reader.specs.Values.{itemValues}
 use Rattle.reader.specs.declared.Format.{Format}
 use Rattle.reader.specs.declared.Format.the-variants.{Tiny, Board}
+use Rattle.tiny.specs.Answers.{serials}
 use Rattle.tiny.specs.Values.{text}
-use Rattle.tiny_layout.specs.Layout.{total}
+use Rattle.tiny_layout.specs.Layout.{total, dataAt}
 use Rattle.tiny_layout.specs.Pool.{pool}
 use Rattle.tiny_layout.specs.Strings.{texts}
 use Rattle.tiny_writer.specs.Image as tiny-parts
@@ -35,6 +37,10 @@ use Rattle.tiny_writer.specs.Written as tiny-writer
 use Rattle.tiny_writer.specs.laws.Written as tiny-back
 use Rattle.verdict.specs.Said.{says, refused, writeSaid}
 use Rattle.verdict.specs.laws.Accepted.{Clear}
+
+-- the text whose number is the data byte of the serial at p
+abbrev pub serialText : Kinds → List ℕ → ℕ → List ℕ
+serialText k s p = getD (texts s (pool k s)) (byte s (dataAt s p)) []
 
 pub record Demand2 : Type 0 where
   -- "An image is accepted exactly when the rules .. hold": no rule of the table is broken. The count is that of the items on the walk
@@ -47,6 +53,10 @@ pub record Demand2 : Type 0 where
       → answers Tiny k s .further .string i ≡ says (text (getD (texts s (pool k s)) i []))
   pub noString : (k : Kinds) (s : List ℕ) (n : ℕ) → answers Tiny k s .judge ≡ says n → hasPool k ≡ true → (i : ℕ) → length (texts s (pool k s)) ≤ i
       → answers Tiny k s .further .string i ≡ refused 42 0
+  -- the name is the text that the only known serial refers to, at the front of the lent buffer, and the rest of it is as it was
+  pub name : (k : Kinds) (s : List ℕ) (n : ℕ) → answers Tiny k s .judge ≡ says n → hasPool k ≡ true → (p : ℕ) → only (serials k s) ≡ At p
+      → (b : List ℕ) → length (serialText k s p) ≤ length b
+      → answers Tiny k s .further .name b ≡ (says (length (serialText k s p)), serialText k s p ++ drop (length (serialText k s p)) b)
   -- "What the writers write is accepted and reads back as given". (A board reader refuses over 65,536 bytes, so it is asked of as many at most.)
   pub tinyReadsBack : (x : tiny-parts.Parts) (b : List ℕ) (n : ℕ) → writeSaid (tiny-writer.written x b .0) ≡ says n → tiny-back.ReadsBack x (tiny-writer.written x b .1)
   pub boardReadsBack : (x : board-parts.Parts) → board-parts.Fits x → (b : List ℕ) (n : ℕ) → writeSaid (board-writer.written x b .0) ≡ says n
