@@ -5,9 +5,7 @@ use super::ItemAnswer;
 use kinds::Kinds;
 use tiny_layout::Pool;
 ghost use mathlib.Core.Path.{_≡_};
-ghost use Prim.Native.Nat.{_<_};
-ghost use Rattle.reader.specs.Formats.{end};
-ghost use Rattle.reader.specs.Items.{poolOf, itemAt};
+ghost use Rattle.reader.specs.Items.{poolOf};
 ghost use Rattle.reader.specs.Answers.{itemNumbered};
 ghost use Rattle.reader.specs.declared.Format.{Format};
 
@@ -18,17 +16,6 @@ pub fn pool_of(format: Format, image: &[u8], kinds: Kinds) -> Pool
     match format {
         Format::Tiny => tiny_rules::pool_of(image, kinds),
         Format::Board => Pool { from: 0, to: 0 },
-    }
-}
-
-// The item at a place before the end of the items.
-pub fn item_at(format: Format, image: &[u8], kinds: Kinds, pool: Pool, at: u32) -> Item
-    requires { ⌜ at < end format (now image) ⌝ }
-    ensures { λ r. ⌜ r ≡ itemAt format kinds (now (image .entry)) pool at ⌝ }
-{
-    match format {
-        Format::Tiny => Item::Tiny(tiny::item_at(image, kinds, pool, at as u8)),
-        Format::Board => Item::Board(board::item_at(image, kinds, at)),
     }
 }
 

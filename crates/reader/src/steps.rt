@@ -1,18 +1,22 @@
 // The walk. `fresh`, `step` and `step_numbered` are over a struct that holds the lent image and are proved by hand; what a step does is `step_at`.
 use super::Format;
+use super::Item;
 use super::Position;
 use super::StepAnswer;
 use super::Stepped;
 use super::Walk;
-use super::items::item_at;
 use super::items::pool_of;
 use super::judge;
 use super::layout::first_place;
 use super::layout::go_on;
 use super::layout::items_end;
 use kinds::Kinds;
+use tiny_layout::Pool;
 use verdict::Judged;
 ghost use mathlib.Core.Path.{_≡_};
+ghost use Prim.Native.Nat.{_<_};
+ghost use Rattle.reader.specs.Formats.{end};
+ghost use Rattle.reader.specs.Items.{itemAt};
 ghost use Rattle.reader.specs.Walk.{first, stepOn, stepAt, freshWalk, stepped, stepNumbered, stepsDue};
 
 // Where a walk begins: the image is judged and its pool is found, once.
@@ -23,6 +27,17 @@ fn first_position(format: Format, image: &[u8], kinds: Kinds) -> Position
         verdict: judge(format, image, kinds),
         pool: pool_of(format, image, kinds),
         at: first_place(format),
+    }
+}
+
+// The item at a place before the end of the items.
+fn item_at(format: Format, image: &[u8], kinds: Kinds, pool: Pool, at: u32) -> Item
+    requires { ⌜ at < end format (now image) ⌝ }
+    ensures { λ r. ⌜ r ≡ itemAt format kinds (now (image .entry)) pool at ⌝ }
+{
+    match format {
+        Format::Tiny => Item::Tiny(tiny::item_at(image, kinds, pool, at as u8)),
+        Format::Board => Item::Board(board::item_at(image, kinds, at)),
     }
 }
 

@@ -1,9 +1,9 @@
--- `items::item_at` meets its contract: the arm of each format. An item of a tiny image lies before the check byte, so its place fits in a byte.
+-- `steps::item_at` meets its contract: the arm of each format. An item of a tiny image lies before the check byte, so its place fits in a byte.
 -- Assumes nothing.
 use native.Mathlib.Omega.{arith}
 use borrow.Author.Needs.{needs}
-use Rattle.reader.proofs.items.item_at.Statement.{statement}
-use Rattle.reader.proofs.items.item_at.Tie as tie
+use Rattle.reader.proofs.steps.item_at.Statement.{statement}
+use Rattle.reader.proofs.steps.item_at.Tie as tie
 use mathlib.Core.Path.{ap}
 use Prim.Native.Nat.{_<_}
 use Rattle.tiny_layout.specs.Layout.{checkPlace}
