@@ -96,13 +96,16 @@ module _ (longer shorter : Kinds) (contains : Contains longer shorter) (s : List
     map-hidden n = ap (mapRecordIf s n) d ∙ sym (ap (mapRecordIf s n) e)
 
     pub gpio-hidden : (i n : ℕ)
-        → gpioRecordSaid (gpioRecordNumbered shorter s i n) ≡ hideRecord shorter (itemFrom (view Board longer s) (nth (structures s) i)) (gpioRecordSaid (gpioRecordNumbered longer s i n))
+        → gpioRecordSaid (gpioRecordNumbered shorter s i n)
+        ≡ hideRecord shorter (itemFrom (view Board longer s) (nth (structures s) i)) (gpioRecordSaid (gpioRecordNumbered longer s i n))
     unfolding gpioRecordNumbered board.itemAt
     gpio-hidden i n =
         ap (λ (j : Judged). gpioRecordSaid (gpioRecordIf shorter s i n j)) d
         ∙ at-number (structures s) i
         (λ f. said shorter f ≡ hideRecord shorter (itemFrom (view Board longer s) f) (said longer f))
-        (λ p at. ap (λ (b : Bool). recordBy p (isGpio (shapeAt s p) && b)) (knows-hidden p) ∙ go p (isGpio (shapeAt s p)) (has shorter (Signature (signatureAt s p))) (knows longer (shapeAt s p)))
+        (λ p at.
+        ap (λ (b : Bool). recordBy p (isGpio (shapeAt s p) && b)) (knows-hidden p)
+        ∙ go p (isGpio (shapeAt s p)) (has shorter (Signature (signatureAt s p))) (knows longer (shapeAt s p)))
         refl
         ∙ ap (λ (j : Judged). hideRecord shorter (itemFrom (view Board longer s) (nth (structures s) i)) (gpioRecordSaid (gpioRecordIf longer s i n j))) (sym e)
       where

@@ -33,7 +33,9 @@ use Rattle.verdict.specs.declared.Judged as verdict
 
 -- ---- two readers
 -- what the longer accepts, the shorter accepts, with the same count
-shorter-accepts : (f : Format) (longer shorter : Kinds) → Contains longer shorter → (s : List ℕ) (n : ℕ) → judged f longer s ≡ verdict.Judged.Accepted n → judged f shorter s ≡ verdict.Judged.Accepted n
+shorter-accepts :
+    (f : Format) (longer shorter : Kinds) → Contains longer shorter → (s : List ℕ) (n : ℕ)
+    → judged f longer s ≡ verdict.Judged.Accepted n → judged f shorter s ≡ verdict.Judged.Accepted n
 shorter-accepts Tiny = tiny-rules.shorter-accepts
 shorter-accepts Board = board-rules.shorter-accepts
 

@@ -106,7 +106,9 @@ not-known reader.notKnown = (λ e. refl, λ e. refl)
 
 module _ (f : Format) (k : Kinds) (s : List ℕ) (c : ℕ) (e : judged f k s ≡ Accepted c) where
   -- what holds of the item at each place holds of an item that is shown
-  pub shown-at : (P : ItemValues → Type 0) (i : ℕ) → ((p : ℕ) → nth (places f s) i ≡ At p → P (view f k s .item p)) → (x : ItemValues) → answers f k s .item i ≡ says x → P x
+  pub shown-at :
+      (P : ItemValues → Type 0) (i : ℕ) → ((p : ℕ) → nth (places f s) i ≡ At p → P (view f k s .item p))
+      → (x : ItemValues) → answers f k s .item i ≡ says x → P x
   shown-at P i h x said = go (nth (places f s) i) refl (sym (item-given f k s c e i) ∙ said)
     where
       go : (a : Found) → nth (places f s) i ≡ a → itemFrom (view f k s) a ≡ says x → P x

@@ -71,7 +71,9 @@ map-hides : (g : Entry → Entry) (f h : ℕ → Entry) → ((p : ℕ) → f p �
 map-hides g f h e [] = refl
 map-hides g f h e (x ∷ xs) = ap₂ (λ (y : Entry) (ys : List Entry). y ∷ ys) (e x) (map-hides g f h e xs)
 
-module _ (k : Kinds) (g : Entry → Entry) (v w : View) (places : v .places ≡ w .places) (items : (p : ℕ) → v .item p ≡ hideItem k (w .item p)) (entries : (p : ℕ) → v .entry p ≡ g (w .entry p)) where
+module _
+    (k : Kinds) (g : Entry → Entry) (v w : View) (places : v .places ≡ w .places)
+    (items : (p : ℕ) → v .item p ≡ hideItem k (w .item p)) (entries : (p : ℕ) → v .entry p ≡ g (w .entry p)) where
   pub item-hides : (i : ℕ) → itemFrom v (nth (v .places) i) ≡ hideSaid (hideItem k) (itemFrom w (nth (w .places) i))
   item-hides i =
       at-number (v .places) i (λ a. itemFrom v a ≡ hideSaid (hideItem k) (itemFrom w a)) (λ p e. ap says (items p)) refl
@@ -88,7 +90,9 @@ module _ (k : Kinds) (g : Entry → Entry) (v w : View) (places : v .places ≡ 
       (map-hides g (v .entry) (w .entry) entries (v .places) ∙ ap (λ (x : List ℕ). map g (map (w .entry) x)) places)
 
 -- ---- two images: at each place the same is shown
-module _ (v w : View) (places : v .places ≡ w .places) (items : All (λ p. v .item p ≡ w .item p) (v .places)) (entries : All (λ p. v .entry p ≡ w .entry p) (v .places)) where
+module _
+    (v w : View) (places : v .places ≡ w .places)
+    (items : All (λ p. v .item p ≡ w .item p) (v .places)) (entries : All (λ p. v .entry p ≡ w .entry p) (v .places)) where
   pub item-same : (i : ℕ) → itemFrom v (nth (v .places) i) ≡ itemFrom w (nth (w .places) i)
   item-same i =
       at-number (v .places) i (λ a. itemFrom v a ≡ itemFrom w a) (λ p e. ap says (nth-all (λ p. v .item p ≡ w .item p) (v .places) i p items e)) refl

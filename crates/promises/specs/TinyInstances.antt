@@ -152,7 +152,8 @@ Holds (accepted k s) = cond (accepts (answers Tiny full s)) (accepts (answers Ti
 Holds (exactly k s) = exact k s ≡ true
 Holds (same-answers k s t) = seen (answers Tiny k s) ≡ seen (answers Tiny k t)
 Holds (steps k s) =
-    map (answers Tiny k s .walk) (0 ∷ 1 ∷ 2 ∷ 3 ∷ []) ≡ asStep (answers Tiny k s .item 0) ∷ asStep (answers Tiny k s .item 1) ∷ asStep (answers Tiny k s .item 2) ∷ says reader.noneLeft ∷ []
+    map (answers Tiny k s .walk) (0 ∷ 1 ∷ 2 ∷ 3 ∷ [])
+    ≡ asStep (answers Tiny k s .item 0) ∷ asStep (answers Tiny k s .item 1) ∷ asStep (answers Tiny k s .item 2) ∷ says reader.noneLeft ∷ []
 
 abbrev instances : List Instance
 instances =
