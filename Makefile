@@ -32,7 +32,7 @@ write: ## write an image: make write REQUEST='12; 10 01 00; 74 6F 70 B1' (buffer
 
 compare: ## compare with readers and writers in C: make compare IMAGES=20000 SEED=1 BOARDS=12000
 	@mkdir -p target
-	@rt check tiny_list tiny_answers tiny_write board_list board_answers board_write choice_answers >target/compare.log 2>&1 || { cat target/compare.log; exit 1; }
+	@rt check tiny_list tiny_answers tiny_write board_list board_answers board_write choice_answers reader_c >target/compare.log 2>&1 || { cat target/compare.log; exit 1; }
 	@python3 tests/run.py $(or $(IMAGES),20000) $(or $(SEED),1) $(or $(BOARDS),12000)
 
 bench: ## time the CRCs and the judge of board images against zlib, and CRC-8 against a plain C loop (no test)

@@ -17,7 +17,11 @@
    where a pair was made for an answer, it gets that; firmware, EEPROM and neither were among the answers;
 7. what the gate compares `tiny_write`, `board_answers`, `board_list`, `board_write` and `choice_answers` with is what the references
    answer;
-8. the functions exported to C answer for images of both formats as they should, and read nothing past either end (tests/boundary.c).
+8. the CRCs and the board judge exported to C answer for images of both formats as they should, and read nothing past either end
+   (tests/boundary.c);
+9. the lists and the walks exported to C have, for a third of the images of 2 with two lists each, the items that the references have: all
+   entries of a list that is long enough, 43 where it is not, and a step for each item and none past the last; nothing else is changed
+   (tests/lists.c). Accepted, refused, known, not known and 43 were among the answers for each format.
 """
 import collections
 import itertools
@@ -42,12 +46,17 @@ BIN = os.path.join("target", "bin")
 
 # a format: its name in those of programs; the full list, and another one; how many bytes a record has for its list and for its image's
 # length, and a run of records or of requests at most; the numbers of its rules, the first of them that asks the list, and those that follow
-# them; the images of a seed, and the requests to its writer; the sources of its reference
-Format = collections.namedtuple("Format", "name full another list_bytes length_bytes room rules listed late images runs sources")
+# them; the images of a seed, and the requests to its writer; the sources of its reference, and its command that has every item in its answers
+Format = collections.namedtuple("Format", "name full another list_bytes length_bytes room rules listed late images runs sources items")
 TINY = Format("tiny", 255, lambda rnd: rnd.choice([0, 254, 253, 251, rnd.randrange(256)]), 1, 2, 65536, range(1, 12), 8, (42, 43, 44),
-              tiny_images.images, tiny_runs, ("tiny.c",))
+              tiny_images.images, tiny_runs, ("tiny.c",), "answers")
 BOARD = Format("board", board_images.FULL, lambda rnd: rnd.choice([0, board_images.FULL - (1 << rnd.randint(8, 16)), rnd.getrandbits(17)]),
-               4, 4, 262144, range(20, 34), 32, (42,), board_images.images, board_runs, ("board.c", "board_write.c"))
+               4, 4, 262144, range(20, 34), 32, (42,), board_images.images, board_runs, ("board.c", "board_write.c"), "items")
+
+# answers of the functions exported to C: a list that is too short, and a step where no item is left; and an item in a reference's answers
+SHORT = 43 << 32
+NONE_LEFT = 1 << 40
+ITEM = re.compile(r"^item \d+ (?:tag|kind) ([0-9A-F]+) place (\d+) length (\d+) (unknown)?", re.MULTILINE)
 
 
 # what is not freed at the end is no mistake here, and looking for it needs rights that a build machine may not give
@@ -70,6 +79,13 @@ def build(folder, name, *sources):
     subprocess.run(["gcc", "-std=c11", "-O2", "-Wall", "-Wextra", "-pedantic", "-Werror", "-fsanitize=address,undefined",
                     "-fno-sanitize-recover=all", "-o", program, *sources], check=True)
     return program
+
+
+def build_exported(folder, name, *crates):
+    """A C program that calls the functions which crates export."""
+    for crate in crates:
+        subprocess.run(["rt", "staticlib", crate], check=True, stdout=subprocess.DEVNULL, stderr=subprocess.DEVNULL)
+    return build(folder, name, "tests/%s.c" % name, *("target/staticlib/lib%s.a" % crate for crate in crates))
 
 
 def samples(references):
@@ -193,6 +209,14 @@ def streams(form, made, seed):
     )
 
 
+def answered(ours, theirs, expected):
+    """What both sides answer to each record of a run, with what is expected of it."""
+    ours, theirs = (text.split(b"list ")[1:] for text in (ours, theirs))
+    if not len(ours) == len(theirs) == len(expected):
+        fail("%d records, %d and %d answered" % (len(expected), len(ours), len(theirs)))
+    return zip(ours, theirs, expected)
+
+
 def shown(image):
     """An image in hexadecimal, or where it was put if it is large."""
     if len(image) <= 4096:
@@ -206,11 +230,8 @@ def compare(form, reference, made, seed):
     """All answers, image by image; how often each refusal number was answered, and how many were known before."""
     counts, compared, known = {}, 0, 0
     for run, expected in streams(form, made, seed):
-        ours = output(os.path.join(BIN, form.name + "_answers"), given=run).split(b"list ")[1:]
-        theirs = output(reference, "answers", given=run).split(b"list ")[1:]
-        if not len(ours) == len(theirs) == len(expected):
-            fail("%d images, %d and %d answered" % (len(expected), len(ours), len(theirs)))
-        for a, b, (group, image, mask, said) in zip(ours, theirs, expected):
+        ours, theirs = output(os.path.join(BIN, form.name + "_answers"), given=run), output(reference, "answers", given=run)
+        for a, b, (group, image, mask, said) in answered(ours, theirs, expected):
             judged = a.split(b"\n")[1].decode()
             if a != b or said != "?" and judged != said:
                 fail("list %d, image %s (%s, made to be %s):\n%s\nreference:\n%s"
@@ -253,11 +274,9 @@ def refusal(said):
 
 
 def boundary(folder, seed):
-    """The functions exported to C, by tests/boundary.c: the board judge's number where it is known, and the check values of zlib and of
+    """The functions of crc_c and board_c, by tests/boundary.c: the board judge's number where it is known, and the check values of zlib and of
     tiny_images.crc8. How many images there were."""
-    for crate in ("crc_c", "board_c"):
-        subprocess.run(["rt", "staticlib", crate], check=True, stdout=subprocess.DEVNULL, stderr=subprocess.DEVNULL)
-    program = build(folder, "boundary", "tests/boundary.c", *("target/staticlib/lib%s.a" % crate for crate in ("crc_c", "board_c")))
+    program = build_exported(folder, "boundary", "crc_c", "board_c")
     made = [(image, "?") for _, image, _ in itertools.islice(tiny_images.images(seed), LENT)]
     made += [(image, said) for _, image, said in itertools.islice(board_images.images(seed), LENT)]
     said = output(program, given=b"".join(len(image).to_bytes(4, "little") + image for image, _ in made)).decode().splitlines()
@@ -269,6 +288,69 @@ def boundary(folder, seed):
         if checks != [tiny_images.crc8(image), zlib.crc32(image), zlib.crc32(blank)] or known != "?" and number != refusal(known):
             fail("image %s (made to be %s) is answered %s by the functions exported to C" % (shown(image), known, line))
     return len(made)
+
+
+def list_record(form, rnd, mask, image):
+    """A record for tests/lists.c: the number of a board's format is any but 0, and bits of no kind of the format count for nothing."""
+    number = 0 if form is TINY else rnd.randint(1, 255)
+    return bytes([number]) + record(BOARD, mask | rnd.getrandbits(32) & ~form.full, image)
+
+
+def written_lists(program, records):
+    """What tests/lists.c writes. It stops at a record where something is changed, or read, that may not be."""
+    try:
+        return output(program, given=b"".join(records))
+    except subprocess.CalledProcessError as stopped:
+        fail("tests/lists.c stopped with status %d at the record %s" % (stopped.returncode, shown(records[stopped.output.count(b"list ") - 1])))
+
+
+def items_of(said):
+    """The items that a reference answers: each with its kind as a number, place, data length, and whether it is known."""
+    return [(int.from_bytes(bytes.fromhex(kind), "little"), int(place), int(length), not unknown)
+            for kind, place, length, unknown in ITEM.findall(said)]
+
+
+def answers_due(judged, items):
+    """What must be answered for the four lists of tests/lists.c, and for the steps: one to each item, and four that no item is left for."""
+    if refusal(judged):
+        number, place = map(int, judged.split()[1:])
+        return [number << 32 | place] * 4, [number << 32 | place] * 4
+    if judged != "accepted %d" % len(items):
+        fail("a reference shows %d items of an image that is %s" % (len(items), judged))
+    short = SHORT if items else 0
+    return [len(items), len(items), short, short], [place for _, place, _, _ in items] + [NONE_LEFT] * 4
+
+
+def lists_due(said):
+    """What tests/lists.c must write of an image, by what a reference answers, and how often each outcome is in it."""
+    judged, items = said.split("\n")[1], items_of(said)
+    lists, steps = answers_due(judged, items)
+    entries = "".join("entry %016X place %d length %d %s\n" % (*entry, "known" if known else "unknown") for *entry, known in items)
+    numbers = (*range(len(items) + 2), 1 << 32, (1 << 64) - 1)
+    text = "".join("%s %016X\n" % (room, answer) + (entries if answer == len(items) else "")
+                   for room, answer in zip(("more", "exact", "less", "none"), lists))
+    text += "".join("step %d %016X\n" % step for step in zip(numbers, steps))
+    known = sum(item[-1] for item in items)
+    return text.encode(), (not refusal(judged), refusal(judged) > 0, known, len(items) - known, lists.count(SHORT))
+
+
+def compare_lists(form, reference, program, number, seed):
+    """The lists and the walks of a format through C: all entries and steps, each outcome reached."""
+    rnd, counts = random.Random(seed), dict.fromkeys(("accepted", "refused", "items known", "items not known", "lists too short"), 0)
+    for run, expected in streams(form, itertools.islice(form.images(seed), number), seed):
+        records = [list_record(form, rnd, mask, image) for _, image, mask, _ in expected]
+        for a, b, one in answered(written_lists(program, records), output(reference, form.items, given=run), records):
+            said = a.split(b"\n", 1)[1]
+            due, outcomes = lists_due(b.decode())
+            if said != due:
+                fail("record %s for tests/lists.c:\n%s\nby the reference:\n%s" % (shown(one), shortened(said).decode(), shortened(due).decode()))
+            for name, times in zip(counts, outcomes):
+                counts[name] += times
+    print("tests: %d %s images with two lists each, listed and walked through C as tests/reference/%s.c shows their items"
+          % (number, form.name, form.name))
+    print("tests: " + ", ".join("%s %d" % count for count in counts.items()))
+    if not all(counts.values()):
+        fail("not every outcome was among the answers for lists of %s images" % form.name)
 
 
 def lines(form, made, seed):
@@ -351,11 +433,8 @@ def compare_choices(reference, number, seed):
     """The pairs of images: which is chosen, with all of its bytes; each outcome reached."""
     counts, known = {"firmware": 0, "eeprom": 0, "neither": 0}, 0
     for run, expected in pair_runs(itertools.islice(board_runs.pairs(seed), number)):
-        ours = output(os.path.join(BIN, "choice_answers"), given=run).split(b"list ")[1:]
-        theirs = output(reference, "choice", given=run).split(b"list ")[1:]
-        if not len(ours) == len(theirs) == len(expected):
-            fail("%d pairs of images, %d and %d answered" % (len(expected), len(ours), len(theirs)))
-        for a, b, (mask, firmware, eeprom, said) in zip(ours, theirs, expected):
+        ours, theirs = output(os.path.join(BIN, "choice_answers"), given=run), output(reference, "choice", given=run)
+        for a, b, (mask, firmware, eeprom, said) in answered(ours, theirs, expected):
             if a != b or said is not None and b"list " + a != board_runs.choice_text(mask, firmware, eeprom, said).encode():
                 with open("target/different.bin", "wb") as f:
                     f.write(board_runs.record(mask, firmware, eeprom))
@@ -386,6 +465,9 @@ def main():
         compare_readers(TINY, references[TINY], number, seed)
         compare_readers(BOARD, references[BOARD], boards, seed)
         print("tests: %d images lent to C functions between pages that cannot be read, answered as they should be" % boundary(folder, seed))
+        lists = build_exported(folder, "lists", "reader_c")
+        compare_lists(TINY, references[TINY], lists, number // 3, seed)
+        compare_lists(BOARD, references[BOARD], lists, boards // 3, seed)
         compare_writers(TINY, references[TINY], max(number, REQUESTS), seed)
         compare_writers(BOARD, references[BOARD], boards // 3, seed)
         compare_choices(references[BOARD], boards // 3, seed)

@@ -277,6 +277,15 @@ def good_lengths(rnd):
         yield lend(rnd, image), accepted(items)
 
 
+def good_many(rnd):
+    """Items of two bytes, up to the 125 that there is room for, without a pool or with a pool of one string as the last of them."""
+    for count, strings in cycle(rnd, [(count, strings) for count in (30, 100, 123, 124, 125) for strings in (0, 1)]):
+        tags = [0x11, None] + [0x10] * strings
+        items = [unknown(rnd, 2) if tag is None else known(rnd, tag, strings) for tag in rnd.choices(tags, k=count - strings)]
+        items += [item(0x01, pack([b"x"]))] * strings
+        yield lend(rnd, finish(b"".join(items))), accepted(items)
+
+
 def rule_1(rnd):
     for n in cycle(rnd, [0, 1, 2, 3]):
         image = next(good_mixed(rnd))[0]
@@ -655,7 +664,7 @@ def paper_cases(rnd):
 
 # a group and how many images it gives in each turn
 GROUPS = [(good_mixed, 12), (good_each_tag, 6), (good_pool_counts, 4), (good_quotes, 2), (good_long_name, 2),
-          (good_lengths, 6), (rule_1, 1), (rule_2, 1), (rule_3, 1), (rule_4, 2), (rule_5, 2), (rule_6, 6), (rule_7, 2),
+          (good_lengths, 6), (good_many, 1), (rule_1, 1), (rule_2, 1), (rule_3, 1), (rule_4, 2), (rule_5, 2), (rule_6, 6), (rule_7, 2),
           (rule_8, 3), (rule_9, 4), (rule_9_short, 2), (rule_10, 6), (rule_11, 8), (two_same, 2), (two_rules, 6),
           (truncations, 4), (truncations_checked, 4), (random_bytes, 3), (random_alphabet, 4), (random_items, 4),
           (mutated, 4)]

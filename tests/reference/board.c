@@ -3,6 +3,7 @@
  *
  *     board list < image         the listing of docs/LISTING.md, full list
  *     board answers < records    every answer, for a run of images with their lists
+ *     board items < records      the judge's answer and all items, for the same
  *     board write < requests     the image of each request, or why there is none (board_write.c)
  *     board choice < records     which of two images is chosen, for a run of pairs with their lists (board_write.c)
  *
@@ -545,13 +546,23 @@ static void answer_records_of(const struct board *b, unsigned kind, unsigned i) 
     }
 }
 
-static void all_answers(const struct board *b) {
-    unsigned count = b->judged.value; /* 0 of a refused image */
+static void answer_judge(const struct board *b) {
     printf("list %u\n", b->list);
     if (b->judged.refusal)
         printf("refused %u %u\n", b->judged.refusal, b->judged.place);
     else
-        printf("accepted %u\n", count);
+        printf("accepted %u\n", b->judged.value);
+}
+
+static void all_items(const struct board *b) {
+    answer_judge(b);
+    for (unsigned i = 0; i < b->judged.value; i++)
+        answer_item(b, i);
+}
+
+static void all_answers(const struct board *b) {
+    unsigned count = b->judged.value; /* 0 of a refused image */
+    answer_judge(b);
     for (unsigned i = 0; i < count && i < ASKED; i++) {
         answer_item(b, i);
         answer_records_of(b, GPIO, i);
@@ -579,17 +590,25 @@ uint32_t four(const uint8_t *bytes) {
 }
 
 /* each record: the list in four bytes, the image's length in four, its bytes; a record cut short ends the run */
-static bool answer_run(const uint8_t *input, size_t length) {
+static bool records_run(const uint8_t *input, size_t length, void (*answer)(const struct board *)) {
     size_t at = 0;
     while (length - at >= 8) {
         size_t lent = four(input + at + 4);
         if (length - at - 8 < lent)
             break;
-        if (!lend(input + at + 8, lent, four(input + at), all_answers))
+        if (!lend(input + at + 8, lent, four(input + at), answer))
             return false;
         at += 8 + lent;
     }
     return true;
+}
+
+static bool answers_run(const uint8_t *input, size_t length) {
+    return records_run(input, length, all_answers);
+}
+
+static bool items_run(const uint8_t *input, size_t length) {
+    return records_run(input, length, all_items);
 }
 
 static bool list_run(const uint8_t *input, size_t length) {
@@ -601,8 +620,8 @@ int main(int argc, char **argv) {
         const char *name;
         size_t most; /* bytes that are read */
         bool (*run)(const uint8_t *, size_t);
-    } commands[] = {{"list", LONGEST + 1, list_run}, {"answers", INPUT, answer_run}, {"write", INPUT + 1, answer_requests},
-                    {"choice", INPUT, answer_choices}};
+    } commands[] = {{"list", LONGEST + 1, list_run}, {"answers", INPUT, answers_run}, {"items", INPUT, items_run},
+                    {"write", INPUT + 1, answer_requests}, {"choice", INPUT, answer_choices}};
     static uint8_t input[INPUT + 1];
     for (unsigned i = 0; i < sizeof commands / sizeof *commands; i++) {
         if (argc != 2 || strcmp(argv[1], commands[i].name) != 0)
@@ -612,6 +631,6 @@ int main(int argc, char **argv) {
             return 3;
         return fflush(stdout) || ferror(stdout) ? 3 : 0;
     }
-    fputs("usage: board list | board answers | board write | board choice, input on standard input\n", stderr);
+    fputs("usage: board list | board answers | board items | board write | board choice, input on standard input\n", stderr);
     return 2;
 }
