@@ -1,5 +1,5 @@
 -- Demand 3 at two readers of a board image and at two board images: its premises are met there, by a shorter list that really knows less and by images that
--- really differ. Assumes nothing.
+-- really differ; and what is answered there of the item that one does not know. Assumes nothing.
 use Prim.Native.Nat.{ℕ}
 use borrow.Author.Tests.{ltb-true, leb-true}
 use mathlib.Core.Bool.{true, _&&_}
@@ -42,6 +42,12 @@ use Rattle.reader.specs.Answers.{itemNumbered, listOf}
 use Rattle.reader.specs.Entries.{entryAt}
 use Rattle.reader.specs.Walk.{stepOn, stepAt, walked, stepNumbered}
 use Rattle.reader.specs.declared.Format.the-variants.{Board}
+use Rattle.board.specs.declared.Fields.{Fields}
+use Rattle.kinds.specs.declared.Kind.the-variants.{Signature}
+use Rattle.reader.specs.Values as reader
+use Rattle.reader.specs.Values.{FieldValues, ItemValues}
+use Rattle.verdict.specs.Said.{says, refused}
+use Rattle.kinds.specs.Signatures as signatures
 
 -- ---- `$Logo$` off the list, and another logo
 accepts-board : Accepted (answers Board full instances.one)
@@ -81,3 +87,18 @@ logos =
 
 images-board : answers Board instances.logoless instances.one ≡ answers Board instances.logoless instances.other
 images-board = demand3 Board .images instances.logoless instances.one instances.other logoless-one logoless-other logos
+
+-- ---- what is answered for the logo, item 3: its fields by the full list, by one without it that it is not known; and the full list refuses the other image
+abbrev shown : FieldValues → ItemValues
+shown fields = record { kind = Signature signatures.logo; place = 0xE0; length = 0x20; fields = fields }
+
+record Seen : Type 0 where
+  known : answers Board full instances.one .item 3
+      ≡ says (shown (reader.board-fields (record { major = 1; minor = 0; length = 0x30; fields = Fields.Logo (record { place = 0x100; length = 0x10 }) })))
+  unknown : answers Board instances.logoless instances.one .item 3 ≡ says (shown reader.notKnown)
+  step : answers Board instances.logoless instances.one .walk 3 ≡ says (reader.item (shown reader.notKnown))
+  refuses : answers Board full instances.other .judge ≡ refused 32 0xF0
+
+seen : Seen
+unfolding answers hidden itemNumbered listOf entryAt onward stepOn stepAt walked stepNumbered mapRecordNumbered gpioRecordNumbered restAt eepromAt eeprMapAt brdInfoAt itemAt mapRecordAt gpioRecordAt judged rule20 rule21 rule22 rule23 rule24 rule25 rule26 rule27 rule28 rule29 rule30 rule31 rule32 rule33 misplaced gapUsed expected outOfOrder promSigAt covered checkOver badMapHead badBoardHead badPromSigHead badHash badHashOf hashSize badMap badMapField badMapRecord badGpioRecord badBoardType reservedUsed badInside badGpio shapeAt shapeOf listedShape endAt round16 next mapAt boardAt laterAt records visit chain first nth tab le16 le32 le64 sixteenAt nonzero isText isLabelText textEnd badLabel listed picked all same crc32 shift shifts step32
+seen = record { known = refl; unknown = refl; step = refl; refuses = refl }
