@@ -12,6 +12,7 @@ use Rattle.chain.specs.declared.Found.{Found}
 use Rattle.chain.specs.declared.Found.the-variants.{At}
 use Rattle.kinds.specs.Kinds.{full}
 use Rattle.kinds.specs.declared.Kinds.{Kinds}
+use Rattle.promises.proofs.Exactly.{texts-shown}
 use Rattle.promises.proofs.Verdicts.{accepted-by, says-count}
 use Rattle.promises.specs.Answers.{answers}
 use Rattle.promises.specs.Demand1.{rules}
@@ -64,6 +65,7 @@ demand2 =
     record {
       accepted = accepted-exactly;
       item = λ f k s n e. item-shown f k s n (accepted-by f k s n e);
+      reference = λ k s n e on. texts-shown k s n (accepted-by Tiny k s n e) on;
       string = λ k s n e. string-text k s n (accepted-by Tiny k s n e);
       noString = λ k s n e. string-beyond k s n (accepted-by Tiny k s n e);
       name = λ k s n e on p one b room.

@@ -26,8 +26,9 @@ use Rattle.octets.specs.Bytes.{byte}
 use Rattle.promises.proofs.Given.{view, item-given}
 use Rattle.promises.proofs.TinyReaders.{saidBy, name-hidden}
 use Rattle.promises.proofs.View.{itemFrom}
-use Rattle.promises.specs.Answers.{answers}
-use Rattle.promises.specs.Demand3.{NoName, EachShown, isKnown, asEntry}
+use Rattle.promises.specs.Answers.{answers, EachString}
+use Rattle.promises.specs.Demand2.{indexedText}
+use Rattle.promises.specs.Demand3.{NoName, isKnown, asEntry}
 use Rattle.promises.specs.Hidden.{hasPool, hasSerial}
 use Rattle.promises.specs.SameOutside.{onList, Lacks}
 use Rattle.reader.specs.Entries.{entryAt}
@@ -46,7 +47,7 @@ use Rattle.tiny.specs.Values as tiny-values
 use Rattle.tiny.specs.Values.{fieldValues, nameSaid}
 use Rattle.tiny.specs.declared.Item as tiny-item
 use Rattle.tiny.specs.laws.Exactly as tiny-exactly
-use Rattle.tiny.specs.laws.Resolved.{each-map, item-decoded, item-undecoded, string-text, string-beyond, string-unlisted}
+use Rattle.tiny.specs.laws.Resolved.{each-map, item-text, item-decoded, item-undecoded, string-text, string-beyond, string-unlisted}
 use Rattle.tiny_layout.specs.Pool.{pool}
 use Rattle.tiny_layout.specs.Strings.{texts}
 use Rattle.tiny_layout.specs.Tags.{shapeOf}
@@ -130,7 +131,7 @@ module _ (f : Format) (k : Kinds) (s : List ℕ) (c : ℕ) (e : judged f k s ≡
 -- ---- strings
 module _ (k : Kinds) (s : List ℕ) (c : ℕ) (e : judged Tiny k s ≡ Accepted c) where
   -- what holds of each reference of the fields of a tiny item holds of the item as shown
-  each-shown : (P : tiny-values.ReferenceValue → Type 0) (x : tiny-values.FieldValues) → EachIndexed (λ i. P) x → EachShown P (tinyFields x)
+  each-shown : (P : ℕ → tiny-values.ReferenceValue → Type 0) (x : tiny-values.FieldValues) → EachIndexed P x → EachString P (tinyFields x)
   each-shown P (tiny-values.pool n p l) h = h
   each-shown P (tiny-values.serial r) h = h
   each-shown P (tiny-values.flags b) h = h
@@ -139,27 +140,35 @@ module _ (k : Kinds) (s : List ℕ) (c : ℕ) (e : judged Tiny k s ≡ Accepted 
   each-shown P (tiny-values.batched x b) h = h
   each-shown P tiny-values.notKnown h = tt
 
+  -- the item at p as its format shows it, and that it is what is said of its number
+  abbrev item : ℕ → tiny-values.ItemValues
+  item p = tiny-values.itemValues s (tiny.itemAt k s (pool k s) p)
+
+  said : (i p : ℕ) → nth (places Tiny s) i ≡ At p → tiny-values.itemSaid s (tiny-answers.itemNumbered k s i) ≡ says (item p)
+  unfolding tiny-answers.itemNumbered
+  said i p at = ap (λ j. tiny-values.itemSaid s (tiny-answers.itemIf k s i j)) e ∙ ap (λ a. tiny-values.itemSaid s (tiny-answers.numbered k s a)) at
+
+  -- a string inside an item is the text whose number its index byte holds
+  pub texts-shown : hasPool k ≡ true → (i : ℕ) (x : ItemValues) → answers Tiny k s .item i ≡ says x → EachString (λ j r. r ≡ tiny-values.text (indexedText k s (x .place) j)) (x .fields)
+  unfolding tiny.itemAt
+  texts-shown on i =
+      shown-at Tiny k s c e (λ x. EachString (λ j r. r ≡ tiny-values.text (indexedText k s (x .place) j)) (x .fields)) i
+      (λ p at. each-shown (λ j r. r ≡ tiny-values.text (indexedText k s p j)) (item p .fields) (item-text k s c e on i (item p) (said i p at)))
+
   -- "a string as undecodable exactly when its list lacks the pool"
   abbrev Exact : tiny-values.ReferenceValue → Type 0
   Exact r = (r ≡ tiny-values.undecodable) ↔ (hasPool k ≡ false)
 
   -- a string inside an item
-  pub undecoded-exactly : (i : ℕ) (x : ItemValues) → answers Tiny k s .item i ≡ says x → EachShown Exact (x .fields)
-  unfolding tiny-answers.itemNumbered
-  undecoded-exactly i = shown-at Tiny k s c e (λ x. EachShown Exact (x .fields)) i (λ p at. each-shown Exact (item p .fields) (go p at (hasPool k) refl))
+  pub undecoded-exactly : (i : ℕ) (x : ItemValues) → answers Tiny k s .item i ≡ says x → EachString (λ j. Exact) (x .fields)
+  undecoded-exactly i = shown-at Tiny k s c e (λ x. EachString (λ j. Exact) (x .fields)) i (λ p at. each-shown (λ j. Exact) (item p .fields) (go p at (hasPool k) refl))
     where
-      item : ℕ → tiny-values.ItemValues
-      item p = tiny-values.itemValues s (tiny.itemAt k s (pool k s) p)
-
-      said : (p : ℕ) → nth (places Tiny s) i ≡ At p → tiny-values.itemSaid s (tiny-answers.itemNumbered k s i) ≡ says (item p)
-      said p at = ap (λ j. tiny-values.itemSaid s (tiny-answers.itemIf k s i j)) e ∙ ap (λ a. tiny-values.itemSaid s (tiny-answers.numbered k s a)) at
-
-      go : (p : ℕ) → nth (places Tiny s) i ≡ At p → (b : Bool) → hasPool k ≡ b → EachIndexed (λ n. Exact) (item p .fields)
+      go : (p : ℕ) → nth (places Tiny s) i ≡ At p → (b : Bool) → hasPool k ≡ b → EachIndexed (λ j. Exact) (item p .fields)
       go p at true on =
-          each-map (λ n r. r ≡ tiny-values.undecodable → ⊥) (λ n. Exact) (λ n r never. (λ h. absurd (never h), λ off. absurd (false≢true (sym off ∙ on))))
-          (item p .fields) (item-decoded k s c e on i (item p) (said p at))
+          each-map (λ j r. r ≡ tiny-values.undecodable → ⊥) (λ j. Exact) (λ j r never. (λ h. absurd (never h), λ off. absurd (false≢true (sym off ∙ on))))
+          (item p .fields) (item-decoded k s c e on i (item p) (said i p at))
       go p at false off =
-          each-map (λ n r. r ≡ tiny-values.undecodable) (λ n. Exact) (λ n r is. (λ h. off, λ h. is)) (item p .fields) (item-undecoded k s c e off i (item p) (said p at))
+          each-map (λ j r. r ≡ tiny-values.undecodable) (λ j. Exact) (λ j r is. (λ h. off, λ h. is)) (item p .fields) (item-undecoded k s c e off i (item p) (said i p at))
 
   -- and one looked up by any number
   pub unlooked-exactly : (n : ℕ) → (answers Tiny k s .further .string n ≡ says tiny-values.undecodable) ↔ (hasPool k ≡ false)

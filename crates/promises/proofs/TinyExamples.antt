@@ -27,6 +27,7 @@ use Rattle.promises.specs.Answers.{answers}
 use Rattle.promises.specs.Demand3.{Accepted, TwoReaders}
 use Rattle.promises.specs.Hidden.{hidden}
 use Rattle.promises.specs.SameOutside.{onList, SameOutside, InCheck, InsideUnknown}
+use Rattle.promises.specs.Asked.{without, blank}
 use Rattle.promises.specs.TinyInstances as instances
 use Rattle.reader.specs.Answers.{itemNumbered, listOf}
 use Rattle.reader.specs.Entries.{entryAt}
@@ -54,33 +55,33 @@ accepts-one : Accepted (answers Tiny full instances.one)
 unfolding answers hidden itemNumbered listOf entryAt onward stepOn stepAt walked stepNumbered judged rule1 rule2 rule3 rule4 rule5 rule6 rule7 rule8 rule9 rule10 rule11 badIndex isMajor badRevision badBatch stringNumbered nameOf itemAt identityAt batchedAt poolShown majorText first visit chain keep only nth next headSize dataLength pool split texts stringEnd reference shapeOf tab le16 crc8 reduce bring bitsOf bitsOfAll listed picked all same isText
 accepts-one = (3, refl)
 
-readers-one : TwoReaders Tiny full (instances.without 0x01) instances.one
-readers-one = demand3 Tiny .readers full (instances.without 0x01) (full-contains (instances.without 0x01)) instances.one accepts-one
+readers-one : TwoReaders Tiny full (without (Tag 0x01)) instances.one
+readers-one = demand3 Tiny .readers full (without (Tag 0x01)) (full-contains (without (Tag 0x01))) instances.one accepts-one
 
-flagless-one : Accepted (answers Tiny (instances.without 0x11) instances.one)
+flagless-one : Accepted (answers Tiny (without (Tag 0x11)) instances.one)
 unfolding answers hidden itemNumbered listOf entryAt onward stepOn stepAt walked stepNumbered judged rule1 rule2 rule3 rule4 rule5 rule6 rule7 rule8 rule9 rule10 rule11 badIndex isMajor badRevision badBatch stringNumbered nameOf itemAt identityAt batchedAt poolShown majorText first visit chain keep only nth next headSize dataLength pool split texts stringEnd reference shapeOf tab le16 crc8 reduce bring bitsOf bitsOfAll listed picked all same isText
 flagless-one = (3, refl)
 
-flagless-other : Accepted (answers Tiny (instances.without 0x11) instances.other)
+flagless-other : Accepted (answers Tiny (without (Tag 0x11)) instances.other)
 unfolding answers hidden itemNumbered listOf entryAt onward stepOn stepAt walked stepNumbered judged rule1 rule2 rule3 rule4 rule5 rule6 rule7 rule8 rule9 rule10 rule11 badIndex isMajor badRevision badBatch stringNumbered nameOf itemAt identityAt batchedAt poolShown majorText first visit chain keep only nth next headSize dataLength pool split texts stringEnd reference shapeOf tab le16 crc8 reduce bring bitsOf bitsOfAll listed picked all same isText
 flagless-other = (3, refl)
 
 -- they differ in the check byte, at 13, and at 6, inside the flags at 5
-differ : SameOutside Tiny (instances.without 0x11) instances.one instances.other
+differ : SameOutside Tiny (without (Tag 0x11)) instances.one instances.other
 unfolding answers hidden itemNumbered listOf entryAt onward stepOn stepAt walked stepNumbered judged rule1 rule2 rule3 rule4 rule5 rule6 rule7 rule8 rule9 rule10 rule11 badIndex isMajor badRevision badBatch stringNumbered nameOf itemAt identityAt batchedAt poolShown majorText first visit chain keep only nth next headSize dataLength pool split texts stringEnd reference shapeOf tab le16 crc8 reduce bring bitsOf bitsOfAll listed picked all same isText
 differ = record { length = refl; bytes = λ q h. go q (one-of-three instances.one instances.other (λ x. eqb x 13) (λ x. eqb x 6) 14 refl q h) }
   where
-    flags : (q : ℕ) → q ≡ 6 → InsideUnknown Tiny (instances.without 0x11) instances.one q
+    flags : (q : ℕ) → q ≡ 6 → InsideUnknown Tiny (without (Tag 0x11)) instances.one q
     flags q e = record { number = 1; place = 5; stands = refl; property = refl; past = omega (arith, e); before = omega (arith, e) }
 
     go : (q : ℕ) → (byte instances.one q ≡ byte instances.other q) ⊎ ((eqb q 13 ≡ true) ⊎ (eqb q 6 ≡ true))
-        → (byte instances.one q ≡ byte instances.other q) ⊎ (InCheck Tiny instances.one q ⊎ InsideUnknown Tiny (instances.without 0x11) instances.one q)
+        → (byte instances.one q ≡ byte instances.other q) ⊎ (InCheck Tiny instances.one q ⊎ InsideUnknown Tiny (without (Tag 0x11)) instances.one q)
     go q (inl e) = inl e
     go q (inr (inl e)) = inr (inl (eqb-true q 13 e))
     go q (inr (inr e)) = inr (inr (flags q (eqb-true q 6 e)))
 
-images-one : answers Tiny (instances.without 0x11) instances.one ≡ answers Tiny (instances.without 0x11) instances.other
-images-one = demand3 Tiny .images (instances.without 0x11) instances.one instances.other flagless-one flagless-other differ
+images-one : answers Tiny (without (Tag 0x11)) instances.one ≡ answers Tiny (without (Tag 0x11)) instances.other
+images-one = demand3 Tiny .images (without (Tag 0x11)) instances.one instances.other flagless-one flagless-other differ
 
 -- to a reader that knows flags these two are no such images: nothing of them is inside an item that it does not know
 told-apart : SameOutside Tiny full instances.one instances.other → ⊥
@@ -117,7 +118,7 @@ full-sees : instances.seen (answers Tiny full instances.one)
     ≡ record {
       judge = says 3;
       items = says (serial (values.text top1)) ∷ says flags ∷ says (pool1 (reader.tiny-fields (values.pool 1 9 4))) ∷ refused 42 0 ∷ [];
-      lists = (says 3, entry 0x10 3 1 true ∷ entry 0x11 5 1 true ∷ entry 0x01 7 4 true ∷ instances.blank ∷ []) ∷ (refused 43 0, instances.blank ∷ []) ∷ [];
+      lists = (says 3, entry 0x10 3 1 true ∷ entry 0x11 5 1 true ∷ entry 0x01 7 4 true ∷ blank ∷ []) ∷ (refused 43 0, blank ∷ []) ∷ [];
       walk =
           says (reader.item (serial (values.text top1))) ∷ says (reader.item flags) ∷ says (reader.item (pool1 (reader.tiny-fields (values.pool 1 9 4))))
           ∷ says reader.noneLeft ∷ says reader.noneLeft ∷ [];
@@ -127,11 +128,11 @@ full-sees : instances.seen (answers Tiny full instances.one)
 unfolding answers hidden itemNumbered listOf entryAt onward stepOn stepAt walked stepNumbered judged rule1 rule2 rule3 rule4 rule5 rule6 rule7 rule8 rule9 rule10 rule11 badIndex isMajor badRevision badBatch stringNumbered nameOf itemAt identityAt batchedAt poolShown majorText first visit chain keep only nth next headSize dataLength pool split texts stringEnd reference shapeOf tab le16 crc8 reduce bring bitsOf bitsOfAll listed picked all same isText
 full-sees = refl
 
-poolless-sees : instances.seen (answers Tiny (instances.without 0x01) instances.one)
+poolless-sees : instances.seen (answers Tiny (without (Tag 0x01)) instances.one)
     ≡ record {
       judge = says 3;
       items = says (serial values.undecodable) ∷ says flags ∷ says (pool1 reader.notKnown) ∷ refused 42 0 ∷ [];
-      lists = (says 3, entry 0x10 3 1 true ∷ entry 0x11 5 1 true ∷ entry 0x01 7 4 false ∷ instances.blank ∷ []) ∷ (refused 43 0, instances.blank ∷ []) ∷ [];
+      lists = (says 3, entry 0x10 3 1 true ∷ entry 0x11 5 1 true ∷ entry 0x01 7 4 false ∷ blank ∷ []) ∷ (refused 43 0, blank ∷ []) ∷ [];
       walk =
           says (reader.item (serial values.undecodable)) ∷ says (reader.item flags) ∷ says (reader.item (pool1 reader.notKnown))
           ∷ says reader.noneLeft ∷ says reader.noneLeft ∷ [];

@@ -9,12 +9,14 @@ use Rattle.board.specs.declared.MapRecord.{MapRecord}
 use Rattle.kinds.specs.declared.Kinds.{Kinds}
 use Rattle.reader.specs.Answers.{itemNumbered, listOf}
 use Rattle.reader.specs.Formats.{judged}
-use Rattle.reader.specs.Values.{ItemValues, StepValues, itemSaid, stepSaid, listSaid}
+use Rattle.reader.specs.Values as reader
+use Rattle.reader.specs.Values.{FieldValues, ItemValues, StepValues, itemSaid, stepSaid, listSaid}
 use Rattle.reader.specs.Walk.{stepNumbered}
 use Rattle.reader.specs.declared.Entry.{Entry}
 use Rattle.reader.specs.declared.Format.{Format}
 use Rattle.reader.specs.declared.Format.the-variants.{Tiny, Board}
 use Rattle.tiny.specs.Answers.{stringNumbered, nameOf}
+use Rattle.tiny.specs.Texts.{EachIndexed}
 use Rattle.tiny.specs.Values.{ReferenceValue, stringSaid, nameSaid}
 use Rattle.verdict.specs.Said.{Said, judgedSaid}
 
@@ -61,3 +63,9 @@ answers f k s =
       walk = λ i. stepSaid s (stepNumbered f k s i);
       further = furtherAnswers f k s;
     }
+
+-- what holds of each string that an item shows, with the number of its index byte: 0 for the serial's, 1 for the part's
+abbrev pub EachString : (ℕ → ReferenceValue → Type 0) → FieldValues → Type 0
+EachString P (reader.tiny-fields x) = EachIndexed P x
+EachString P (reader.board-fields x) = Unit {0}
+EachString P reader.notKnown = Unit {0}

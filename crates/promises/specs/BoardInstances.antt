@@ -1,6 +1,6 @@
 -- Demand 3 at a few board images, by computation alone: no law is used (see TinyInstances). Assumes nothing.
 use Prim.Native.Nat.{ℕ}
-use mathlib.Core.Bool.{Bool, true, cond, not, _&&_}
+use mathlib.Core.Bool.{true, _&&_}
 use mathlib.Core.List.{List, [], _∷_, _++_, map}
 use mathlib.Core.Path.{_≡_, refl}
 use lib.ListN.{replicate}
@@ -32,27 +32,22 @@ use Rattle.octets.specs.Bytes.{le16, le32, le64}
 use Rattle.octets.specs.Label.{isText, isLabelText, textEnd, badLabel}
 use Rattle.octets.specs.Runs.{sixteenAt, nonzero}
 use Rattle.promises.specs.Answers.{Answers, answers}
-use Rattle.promises.specs.Demand3.{asStep, isKnown}
+use Rattle.promises.specs.Asked.{without, blank, marked}
+use Rattle.promises.specs.Demand3.{asStep}
 use Rattle.promises.specs.Hidden.{hidden}
-use Rattle.promises.specs.SameOutside.{onList}
 use Rattle.reader.specs.Answers.{itemNumbered, listOf}
 use Rattle.reader.specs.Entries.{entryAt}
 use Rattle.reader.specs.Values as reader
-use Rattle.reader.specs.Values.{ItemValues}
 use Rattle.reader.specs.Walk.{stepOn, stepAt, walked, stepNumbered}
 use Rattle.reader.specs.declared.Entry.{Entry}
 use Rattle.reader.specs.declared.Format.the-variants.{Board}
-use Rattle.verdict.specs.Said.{Said, says, refused}
-
--- every kind but one
-abbrev without : ℕ → Kinds
-without g = picked (λ kind. not (same kind (Signature g)))
+use Rattle.verdict.specs.Said.{Said, says}
 
 abbrev pub logoless : Kinds
-logoless = without signatures.logo
+logoless = without (Signature signatures.logo)
 
 abbrev pinless : Kinds
-pinless = without signatures.gpioDat
+pinless = without (Signature signatures.gpioDat)
 
 -- $GpioDat of one record: label "pin", Offset 5, AndData FFh, OrData 1, DataSize 1, DataType 0
 abbrev gpio : List ℕ
@@ -73,17 +68,9 @@ later = image 0xF4 0x1917A25A 0xF4 ((0x24 ∷ 0x4C ∷ 0x6F ∷ 0x67 ∷ 0x6F �
 abbrev pins : List ℕ
 pins = image 0x130 0xBBC4D2 0x130 gpio
 
-abbrev blank : Entry
-blank = record { kind = 9; place = 9; length = 9; known = true }
-
 -- a list of five, and one that is too short
 abbrev lists : Answers Board → List (Said ℕ × List Entry)
 lists a = map (a .list) (replicate 5 blank ∷ replicate 1 blank ∷ [])
-
--- an item is known exactly where the list has its kind and version
-abbrev marked : Kinds → List ℕ → Said ItemValues → Bool
-marked k s (says x) = cond (isKnown (x .fields)) (onList Board k s (x .place)) (not (onList Board k s (x .place)))
-marked k s (refused n p) = true
 
 -- ---- "All else that it answers is as the longer answers": an item, the list, a step, and a record of GPIO data
 record Hides : Type 0 where
@@ -98,7 +85,7 @@ hides = record { item = refl; list = refl; step = refl; pin = refl }
 
 record Shows : Type 0 where
   -- "not known exactly when its list lacks that kind and version"
-  exactly : (marked full one (answers Board full one .item 3) && marked full later (answers Board full later .item 3)) ≡ true
+  exactly : (marked Board full one (answers Board full one .item 3) && marked Board full later (answers Board full later .item 3)) ≡ true
   -- "Whatever it is asked, it answers the same for both."
   item : answers Board logoless one .item 3 ≡ answers Board logoless other .item 3
   list : lists (answers Board logoless one) ≡ lists (answers Board logoless other)

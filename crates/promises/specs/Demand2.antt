@@ -1,7 +1,7 @@
 -- Demand 2: "An image is accepted exactly when the rules of the layout papers and the build paper hold. Each field shown is the field those rules define. What
 -- the writers write is accepted and reads back as given; an accepted image that a writer can make is rebuilt to the last byte." `Demand2` is the claim; it is
 -- proved in proofs/Demand2. Assumes nothing.
-use Prim.Native.Nat.{ℕ, _<_, _≤_}
+use Prim.Native.Nat.{ℕ, _+_, _<_, _≤_}
 use mathlib.Core.Bool.{true}
 use mathlib.Core.List.{List, [], _++_}
 use mathlib.Core.Logic.{_↔_}
@@ -18,12 +18,12 @@ use Rattle.chain.specs.declared.Found.the-variants.{At}
 use Rattle.kinds.specs.Kinds.{full}
 use Rattle.kinds.specs.declared.Kinds.{Kinds}
 use Rattle.octets.specs.Bytes.{Octets, byte}
-use Rattle.promises.specs.Answers.{answers}
+use Rattle.promises.specs.Answers.{answers, EachString}
 use Rattle.promises.specs.Demand1.{rules}
 use Rattle.promises.specs.Hidden.{hasPool}
 use Rattle.reader.specs.Formats.{places}
 use Rattle.reader.specs.Items.{poolOf, itemAt}
-use Rattle.reader.specs.Values.{itemValues}
+use Rattle.reader.specs.Values.{ItemValues, itemValues}
 use Rattle.reader.specs.declared.Format.{Format}
 use Rattle.reader.specs.declared.Format.the-variants.{Tiny, Board}
 use Rattle.tiny.specs.Answers.{serials}
@@ -38,7 +38,10 @@ use Rattle.tiny_writer.specs.laws.Written as tiny-back
 use Rattle.verdict.specs.Said.{says, refused, writeSaid}
 use Rattle.verdict.specs.laws.Accepted.{Clear}
 
--- the text whose number is the data byte of the serial at p
+-- the text whose number is data byte j of the item at p; and data byte 0 of a serial
+abbrev pub indexedText : Kinds → List ℕ → ℕ → ℕ → List ℕ
+indexedText k s p j = getD (texts s (pool k s)) (byte s (dataAt s p + j)) []
+
 abbrev pub serialText : Kinds → List ℕ → ℕ → List ℕ
 serialText k s p = getD (texts s (pool k s)) (byte s (dataAt s p)) []
 
@@ -48,6 +51,9 @@ pub record Demand2 : Type 0 where
   -- "Each field shown is the field those rules define": item i shows what the tables define at its place
   pub item : (f : Format) (k : Kinds) (s : List ℕ) (n : ℕ) → answers f k s .judge ≡ says n → (i p : ℕ) → nth (places f s) i ≡ At p
       → answers f k s .item i ≡ says (itemValues s (itemAt f k s (poolOf f k s) p))
+  -- a string inside an item is the text of the pool's split whose number its index byte holds
+  pub reference : (k : Kinds) (s : List ℕ) (n : ℕ) → answers Tiny k s .judge ≡ says n → hasPool k ≡ true → (i : ℕ) (x : ItemValues) → answers Tiny k s .item i ≡ says x
+      → EachString (λ j r. r ≡ text (indexedText k s (x .place) j)) (x .fields)
   -- string i is text i of the split of the pool, and 42 comes where there is none
   pub string : (k : Kinds) (s : List ℕ) (n : ℕ) → answers Tiny k s .judge ≡ says n → hasPool k ≡ true → (i : ℕ) → i < length (texts s (pool k s))
       → answers Tiny k s .further .string i ≡ says (text (getD (texts s (pool k s)) i []))

@@ -10,7 +10,7 @@ use Rattle.kinds.specs.Kinds.{Contains}
 use Rattle.kinds.specs.declared.Kind.{Kind}
 use Rattle.kinds.specs.declared.Kind.the-variants.{Tag, Signature}
 use Rattle.kinds.specs.declared.Kinds.{Kinds}
-use Rattle.promises.specs.Answers.{Answers, answers}
+use Rattle.promises.specs.Answers.{Answers, answers, EachString}
 use Rattle.promises.specs.Hidden.{hasPool, hasSerial, hidden}
 use Rattle.promises.specs.SameOutside.{Lacks, SameOutside}
 use Rattle.reader.specs.Values as reader
@@ -19,7 +19,6 @@ use Rattle.reader.specs.Walk.{walkAfter}
 use Rattle.reader.specs.declared.Entry.{Entry}
 use Rattle.reader.specs.declared.Format.{Format}
 use Rattle.reader.specs.declared.Format.the-variants.{Tiny, Board}
-use Rattle.tiny.specs.Texts.{EachIndexed}
 use Rattle.tiny.specs.Values as tiny
 use Rattle.verdict.specs.Said.{Said, says, refused}
 
@@ -32,16 +31,10 @@ Accepted a = (n : ℕ) × (a .judge ≡ says n)
 abbrev pub NoName : Kinds → List ℕ → List ℕ → Type 0
 NoName k s buffer = answers Tiny k s .further .name buffer .0 ≡ refused 44 0
 
--- what holds of each string that an item shows
-abbrev pub EachShown : (tiny.ReferenceValue → Type 0) → FieldValues → Type 0
-EachShown P (reader.tiny-fields x) = EachIndexed (λ i. P) x
-EachShown P (reader.board-fields x) = Unit {0}
-EachShown P reader.notKnown = Unit {0}
-
 pub record Strings (longer shorter : Kinds) (s : List ℕ) : Type 0 where
   -- "and a string as undecodable exactly when its list lacks the pool": a string inside an item, and one looked up by any number
   pub undecoded : (i : ℕ) (x : ItemValues) → answers Tiny shorter s .item i ≡ says x
-      → EachShown (λ r. (r ≡ tiny.undecodable) ↔ (hasPool shorter ≡ false)) (x .fields)
+      → EachString (λ j r. (r ≡ tiny.undecodable) ↔ (hasPool shorter ≡ false)) (x .fields)
   pub unlooked : (n : ℕ) → (answers Tiny shorter s .further .string n ≡ says tiny.undecodable) ↔ (hasPool shorter ≡ false)
   -- "It finds no name exactly when the longer finds none, or when its own list lacks the serial's kind or the pool."
   pub nameless : (b : List ℕ) → NoName shorter s b ↔ (NoName longer s b ⊎ ((hasSerial shorter ≡ false) ⊎ (hasPool shorter ≡ false)))

@@ -19,9 +19,9 @@ use Rattle.kinds.specs.declared.Kinds.{Kinds}
 use Rattle.octets.specs.Bytes.{le16}
 use Rattle.octets.specs.Label.{isText}
 use Rattle.promises.specs.Answers.{Answers, answers}
-use Rattle.promises.specs.Demand3.{asStep, isKnown}
+use Rattle.promises.specs.Asked.{without, blank, marked}
+use Rattle.promises.specs.Demand3.{asStep}
 use Rattle.promises.specs.Hidden.{hasPool, hidden}
-use Rattle.promises.specs.SameOutside.{onList}
 use Rattle.reader.specs.Answers.{itemNumbered, listOf}
 use Rattle.reader.specs.Entries.{entryAt}
 use Rattle.reader.specs.Values as reader
@@ -42,10 +42,6 @@ use Rattle.tiny_rules.specs.Judged.{judged}
 use Rattle.tiny_rules.specs.Rules.{rule1, rule2, rule3, rule4, rule5, rule6, rule7, rule8, rule9, rule10, rule11, badIndex, isMajor, badRevision, badBatch}
 use Rattle.verdict.specs.Said.{Said, says, refused}
 
--- every kind but one
-abbrev pub without : ℕ → Kinds
-without tag = picked (λ kind. not (same kind (Tag tag)))
-
 -- serial 0, flags 0Fh, pool "top1"; with other flags, and two bytes lent past it; with an index that no string has; a pool that is not last; an identity
 abbrev pub one : List ℕ
 one = 0x56 ∷ 0x02 ∷ 0x0E ∷ 0x10 ∷ 0x00 ∷ 0x11 ∷ 0x0F ∷ 0x01 ∷ 0x04 ∷ 0x74 ∷ 0x6F ∷ 0x70 ∷ 0xB1 ∷ 0x48 ∷ []
@@ -62,9 +58,6 @@ early = 0x56 ∷ 0x02 ∷ 0x0C ∷ 0x01 ∷ 0x04 ∷ 0x74 ∷ 0x6F ∷ 0x70 ∷ 
 abbrev ident : List ℕ
 ident =
     0x56 ∷ 0x02 ∷ 0x15 ∷ 0x10 ∷ 0x00 ∷ 0x61 ∷ 0x00 ∷ 0x01 ∷ 0x63 ∷ 0x05 ∷ 0x41 ∷ 0x42 ∷ 0x01 ∷ 0x06 ∷ 0x74 ∷ 0x6F ∷ 0x70 ∷ 0xB1 ∷ 0x78 ∷ 0xF9 ∷ 0x8A ∷ []
-
-abbrev pub blank : Entry
-blank = record { kind = 9; place = 9; length = 9; known = true }
 
 -- what is asked: the judge, items 0 to 3, lists of four and of one, steps 0 to 4, strings 0 to 2, buffers of five and of one
 pub record Seen : Type 0 where
@@ -89,11 +82,6 @@ seen a =
 -- ---- both directions of "exactly when", as tests
 abbrev accepts : Answers Tiny → Bool
 accepts a = elim (a .judge) [ says n ↦ true | refused n p ↦ false ]
-
--- an item is known exactly where the list has its kind
-abbrev marked : Kinds → List ℕ → Said ItemValues → Bool
-marked k s (says x) = cond (isKnown (x .fields)) (onList Tiny k s (x .place)) (not (onList Tiny k s (x .place)))
-marked k s (refused n p) = true
 
 -- a string is decoded exactly where the list has the pool
 abbrev decoded : Kinds → ReferenceValue → Bool
@@ -129,7 +117,7 @@ every (b ∷ bs) = let more = every bs in cond b more false
 abbrev exact : Kinds → List ℕ → Bool
 exact k s =
     cond (accepts (answers Tiny k s))
-    (every (map (λ i. marked k s (answers Tiny k s .item i)) (0 ∷ 1 ∷ 2 ∷ []))
+    (every (map (λ i. marked Tiny k s (answers Tiny k s .item i)) (0 ∷ 1 ∷ 2 ∷ []))
     && (every (map (λ i. itemDecoded k (answers Tiny k s .item i)) (0 ∷ 1 ∷ 2 ∷ []))
     && every (map (λ n. lookedUp k (answers Tiny k s .further .string n)) (0 ∷ 1 ∷ 2 ∷ [])))) true
 
@@ -157,25 +145,25 @@ Holds (steps k s) =
 
 abbrev instances : List Instance
 instances =
-    alike (without 0x01) one
-    ∷ alike (without 0x01) ident
-    ∷ alike (without 0x10) one
-    ∷ alike (without 0x11) one
-    ∷ alike (without 0x61) ident
+    alike (without (Tag 0x01)) one
+    ∷ alike (without (Tag 0x01)) ident
+    ∷ alike (without (Tag 0x10)) one
+    ∷ alike (without (Tag 0x11)) one
+    ∷ alike (without (Tag 0x61)) ident
     ∷ alike bare ident
-    ∷ accepted (without 0x01) one
-    ∷ accepted (without 0x01) early
-    ∷ accepted (without 0x10) third
+    ∷ accepted (without (Tag 0x01)) one
+    ∷ accepted (without (Tag 0x01)) early
+    ∷ accepted (without (Tag 0x10)) third
     ∷ exactly full one
     ∷ exactly full third
     ∷ exactly full ident
-    ∷ exactly (without 0x01) one
-    ∷ exactly (without 0x01) early
-    ∷ exactly (without 0x11) one
-    ∷ same-answers (without 0x11) one other
-    ∷ same-answers (without 0x10) one third
+    ∷ exactly (without (Tag 0x01)) one
+    ∷ exactly (without (Tag 0x01)) early
+    ∷ exactly (without (Tag 0x11)) one
+    ∷ same-answers (without (Tag 0x11)) one other
+    ∷ same-answers (without (Tag 0x10)) one third
     ∷ steps full one
-    ∷ steps (without 0x11) one
+    ∷ steps (without (Tag 0x11)) one
     ∷ steps full ident
     ∷ []
 
