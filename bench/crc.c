@@ -1,6 +1,6 @@
 // Compares the exported CRC functions with zlib's crc32 and with a plain table loop for CRC-8: first their values, then their times.
 // `make bench` builds and runs it. It is no test: times depend on the machine and on what else it does.
-#include <string.h>
+#include <stdio.h>
 #include <zlib.h>
 
 #include "timing.h"
@@ -34,10 +34,7 @@ __attribute__((noinline)) static uint8_t table_crc8(const uint8_t *s, size_t n) 
     return c;
 }
 
-// What is timed has one shape (timing.h).
 static uint32_t zlib_crc32(const uint8_t *s, size_t n) { return (uint32_t)crc32(0, s, (uInt)n); }
-static uint32_t c_crc8(const uint8_t *s, size_t n) { return table_crc8(s, n); }
-static uint32_t our_crc8(const uint8_t *s, size_t n) { return chip_crc8(s, n); }
 
 static void fail(const char *what, size_t n) {
     printf("%s differs at %zu bytes\n", what, n);
@@ -63,6 +60,27 @@ static void check(const uint8_t *s) {
     printf("lengths 0 to %d: the values of zlib and of the table loop\n", CHECKED - 1);
 }
 
+// What is timed (timing.h).
+typedef struct {
+    const uint8_t *s;
+    size_t n;
+} Bytes;
+
+static uint64_t time_zlib_crc32(const void *on) { return zlib_crc32(((const Bytes *)on)->s, ((const Bytes *)on)->n); }
+static uint64_t time_table_crc8(const void *on) { return table_crc8(((const Bytes *)on)->s, ((const Bytes *)on)->n); }
+static uint64_t time_crc8(const void *on) { return chip_crc8(((const Bytes *)on)->s, ((const Bytes *)on)->n); }
+static uint64_t time_crc32(const void *on) { return chip_crc32(((const Bytes *)on)->s, ((const Bytes *)on)->n); }
+static uint64_t time_field_as_zero(const void *on) { return chip_crc32_field_as_zero(((const Bytes *)on)->s, ((const Bytes *)on)->n); }
+
+// The median of the rounds' quotients, and the best times.
+static void compare(const char *name, const char *of, Call ours, Call theirs, const uint8_t *s, size_t n) {
+    Timed timed[] = {{.call = ours}, {.call = theirs}};
+    take_turns(timed, 2, &(Bytes){s, n});
+    double best = spread(timed[0].ns).least, their_best = spread(timed[1].ns).least;
+    printf("%s %zu bytes: %.2f of %s (median of %d rounds; best against best %.2f: %.0f ns and %.0f ns)\n", name, n, ratio(&timed[0], &timed[1]).median,
+           of, ROUNDS, best / their_best, best, their_best);
+}
+
 int main(void) {
     uint8_t *s = malloc(LONGEST + 1);
     if (!s) return 1;
@@ -77,13 +95,13 @@ int main(void) {
     check(s + 1);
     static const size_t sizes[] = {16, 64, 255, 256, 512, 1024, 4096, 16384, 65536};
     for (size_t k = 0; k < sizeof sizes / sizeof sizes[0]; k++) {
-        compare("crc32", "zlib's time", chip_crc32, zlib_crc32, s, sizes[k]);
+        compare("crc32", "zlib's time", time_crc32, time_zlib_crc32, s, sizes[k]);
     }
-    compare("crc32_field_as_zero", "zlib's time", chip_crc32_field_as_zero, zlib_crc32, s, LONGEST);
-    compare("crc8", "a C table loop's time", our_crc8, c_crc8, s, 16);
-    compare("crc8", "a C table loop's time", our_crc8, c_crc8, s, 64);
-    compare("crc8", "a C table loop's time", our_crc8, c_crc8, s, 255);
-    compare("crc8", "a C table loop's time", our_crc8, c_crc8, s, 4096);
+    compare("crc32_field_as_zero", "zlib's time", time_field_as_zero, time_zlib_crc32, s, LONGEST);
+    compare("crc8", "a C table loop's time", time_crc8, time_table_crc8, s, 16);
+    compare("crc8", "a C table loop's time", time_crc8, time_table_crc8, s, 64);
+    compare("crc8", "a C table loop's time", time_crc8, time_table_crc8, s, 255);
+    compare("crc8", "a C table loop's time", time_crc8, time_table_crc8, s, 4096);
     free(s);
     return 0;
 }

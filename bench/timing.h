@@ -1,52 +1,80 @@
-// Times two functions against each other, in turns. Included by the benchmarks.
+// Times functions against each other, in turns. Included by the benchmarks.
 #ifndef TIMING_H
 #define TIMING_H
 
 #include <stdint.h>
-#include <stdio.h>
 #include <stdlib.h>
+#include <string.h>
 #include <time.h>
 
-enum { ROUNDS = 31 };
+enum { ROUNDS = 31, ROUND_CLOCKS = CLOCKS_PER_SEC / 500 };
 
-// What is timed has one shape.
-typedef uint32_t (*Sum)(const uint8_t *s, size_t n);
+// What is timed has one shape: a call, with what it works on.
+typedef uint64_t (*Call)(const void *on);
 
-static double seconds(void) {
-    struct timespec t;
-    clock_gettime(CLOCK_MONOTONIC, &t);
-    return (double)t.tv_sec + (double)t.tv_nsec * 1e-9;
-}
+// A function, how many calls of it make a round, and what one call took in each round.
+typedef struct {
+    Call call;
+    long calls;
+    double ns[ROUNDS];
+} Timed;
 
-static volatile uint32_t sink;
+// Of the rounds.
+typedef struct {
+    double least, median, worst;
+} Spread;
 
-// Seconds for one call, over `calls` calls.
-static double once(Sum f, const uint8_t *s, size_t n, int calls) {
-    double start = seconds();
-    for (int i = 0; i < calls; i++) {
-        sink += f(s, n);
+static volatile uint64_t sink;
+
+// CPU time for so many calls: while other programs run it stands still.
+static inline clock_t clocks(Call call, const void *on, long calls) {
+    clock_t start = clock();
+    for (long i = 0; i < calls; i++) {
+        sink += call(on);
     }
-    return (seconds() - start) / calls;
+    return clock() - start;
 }
 
-static int ascending(const void *a, const void *b) {
+// As many calls as take 2 ms or more.
+static inline long enough(Call call, const void *on) {
+    long calls = 1;
+    while (clocks(call, on, calls) < ROUND_CLOCKS) {
+        calls *= 2;
+    }
+    return calls;
+}
+
+// The functions take turns, round by round.
+static inline void take_turns(Timed *timed, size_t count, const void *on) {
+    for (size_t i = 0; i < count; i++) {
+        timed[i].calls = enough(timed[i].call, on);
+    }
+    for (int k = 0; k < ROUNDS; k++) {
+        for (Timed *t = timed; t < timed + count; t++) {
+            t->ns[k] = (double)clocks(t->call, on, t->calls) / (double)t->calls * (1e9 / CLOCKS_PER_SEC);
+        }
+    }
+}
+
+static inline int ascending(const void *a, const void *b) {
     double x = *(const double *)a, y = *(const double *)b;
     return (x > y) - (x < y);
 }
 
-// The two functions take turns, round by round. The best time of each, and the median of the rounds' quotients.
-static void compare(const char *name, const char *of, Sum ours, Sum theirs, const uint8_t *s, size_t n) {
-    int calls = (int)(2000000 / (n + 200)) + 1;
-    double quotient[ROUNDS], best_ours = 1e9, best_theirs = 1e9;
+static inline Spread spread(const double *rounds) {
+    double sorted[ROUNDS];
+    memcpy(sorted, rounds, sizeof sorted);
+    qsort(sorted, ROUNDS, sizeof sorted[0], ascending);
+    return (Spread){sorted[0], sorted[ROUNDS / 2], sorted[ROUNDS - 1]};
+}
+
+// How many times as long the one takes as the other: of the quotients, round by round.
+static inline Spread ratio(const Timed *one, const Timed *other) {
+    double quotients[ROUNDS];
     for (int k = 0; k < ROUNDS; k++) {
-        double a = once(ours, s, n, calls), b = once(theirs, s, n, calls);
-        quotient[k] = a / b;
-        if (a < best_ours) best_ours = a;
-        if (b < best_theirs) best_theirs = b;
+        quotients[k] = one->ns[k] / other->ns[k];
     }
-    qsort(quotient, ROUNDS, sizeof quotient[0], ascending);
-    printf("%s %zu bytes: %.2f of %s (median of %d rounds; best against best %.2f: %.0f ns and %.0f ns)\n", name, n, quotient[ROUNDS / 2], of, ROUNDS,
-           best_ours / best_theirs, best_ours * 1e9, best_theirs * 1e9);
+    return spread(quotients);
 }
 
 #endif

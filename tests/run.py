@@ -17,14 +17,15 @@
    where a pair was made for an answer, it gets that; firmware, EEPROM and neither were among the answers;
 7. what the gate compares `tiny_write`, `board_answers`, `board_list`, `board_write` and `choice_answers` with is what the references
    answer;
-8. the CRCs and the board judge exported to C answer for images of both formats as they should, and read nothing past either end
-   (tests/boundary.c);
-9. the lists and the walks exported to C have, for a third of the images of 2 with two lists each, the items that the references have: all
-   entries of a list that is long enough, 43 where it is not, and a step for each item and none past the last; nothing else is changed
-   (tests/lists.c). Accepted, refused, known, not known and 43 were among the answers for each format.
+8. the CRCs exported to C are those of zlib and of a plain loop, and read nothing past either end (tests/crcs.c);
+9. the papers' cases through C (tests/cases.c), the host program and its header (tests/upload_runs.py);
+10. the judges, the choice, the name, the list and the walk exported to C answer as tests/independent.rs for 110,000 images (tests/host_runs.py and
+    tests/host.c).
 """
-import collections
+import contextlib
+import io
 import itertools
+import multiprocessing
 import os
 import random
 import re
@@ -37,55 +38,22 @@ sys.path.insert(0, os.path.dirname(os.path.abspath(__file__)))
 import board_images
 import board_runs
 import tiny_images
-import tiny_runs
+from building import ENVIRONMENT, build, exported, exporting, fail
+from coverage import table
+from formats import BOARD, TINY, with_fewer
+from host_runs import compare_host
+from upload_runs import try_upload
 
 LISTED = 600
 LENT = 3000  # of each format
 REQUESTS = 20000  # to the tiny writer, at least
+IMAGES = 110000  # through C
 BIN = os.path.join("target", "bin")
-
-# a format: its name in those of programs; the full list, and another one; how many bytes a record has for its list and for its image's
-# length, and a run of records or of requests at most; the numbers of its rules, the first of them that asks the list, and those that follow
-# them; the images of a seed, and the requests to its writer; the sources of its reference, and its command that has every item in its answers
-Format = collections.namedtuple("Format", "name full another list_bytes length_bytes room rules listed late images runs sources items")
-TINY = Format("tiny", 255, lambda rnd: rnd.choice([0, 254, 253, 251, rnd.randrange(256)]), 1, 2, 65536, range(1, 12), 8, (42, 43, 44),
-              tiny_images.images, tiny_runs, ("tiny.c",), "answers")
-BOARD = Format("board", board_images.FULL, lambda rnd: rnd.choice([0, board_images.FULL - (1 << rnd.randint(8, 16)), rnd.getrandbits(17)]),
-               4, 4, 262144, range(20, 34), 32, (42,), board_images.images, board_runs, ("board.c", "board_write.c"), "items")
-
-# answers of the functions exported to C: a list that is too short, and a step where no item is left; and an item in a reference's answers
-SHORT = 43 << 32
-NONE_LEFT = 1 << 40
-ITEM = re.compile(r"^item \d+ (?:tag|kind) ([0-9A-F]+) place (\d+) length (\d+) (unknown)?", re.MULTILINE)
-
-
-# what is not freed at the end is no mistake here, and looking for it needs rights that a build machine may not give
-ENVIRONMENT = {**os.environ, "ASAN_OPTIONS": "detect_leaks=0"}
 
 
 def output(program, *words, given=b""):
     """What a program writes to standard output."""
     return subprocess.run([program, *words], input=given, stdout=subprocess.PIPE, check=True, env=ENVIRONMENT).stdout
-
-
-def fail(text):
-    print("tests: FAILED: " + text)
-    sys.exit(1)
-
-
-def build(folder, name, *sources):
-    """A C program, with the sanitizers: its own mistakes must not count as answers."""
-    program = os.path.join(folder, name)
-    subprocess.run(["gcc", "-std=c11", "-O2", "-Wall", "-Wextra", "-pedantic", "-Werror", "-fsanitize=address,undefined",
-                    "-fno-sanitize-recover=all", "-o", program, *sources], check=True)
-    return program
-
-
-def build_exported(folder, name, *crates):
-    """A C program that calls the functions which crates export."""
-    for crate in crates:
-        subprocess.run(["rt", "staticlib", crate], check=True, stdout=subprocess.DEVNULL, stderr=subprocess.DEVNULL)
-    return build(folder, name, "tests/%s.c" % name, *("target/staticlib/lib%s.a" % crate for crate in crates))
 
 
 def samples(references):
@@ -179,11 +147,6 @@ def record(form, mask, image):
     return mask.to_bytes(form.list_bytes, "little") + len(image).to_bytes(form.length_bytes, "little") + image
 
 
-def with_fewer(form, said):
-    """What the judge must say with a shorter list, given what it must say with the full one: the same, unless a rule asked the list."""
-    return "?" if said.startswith("refused") and int(said.split()[1]) >= form.listed else said
-
-
 def in_runs(records, room):
     """Records, each with what is expected of it, in runs of at most as many bytes as are read."""
     run, expected = bytearray(), []
@@ -252,13 +215,12 @@ def listings(form, reference, made):
 
 
 def compare_readers(form, reference, number, seed):
-    """The images of a format: every answer, each refusal number reached, some listings."""
+    """The images of a format: every answer, each refusal number reached, some listings. How often each number was answered."""
     made = list(itertools.islice(form.images(seed), number))
     numbers = (*form.rules, *form.late)
     counts, compared, known = compare(form, reference, made, seed)
     print("tests: %d %s images with two lists each, %d answered as by tests/reference/%s.c, %d of them with a judge's answer known before"
           % (number, form.name, compared, form.name, known))
-    print("tests: accepted %d; refused " % counts.get(0, 0) + ", ".join("%d: %d" % (n, counts.get(n, 0)) for n in numbers))
     missing = [n for n in (0, *numbers) if not counts.get(n)]
     if missing:
         fail("no %s image was answered with %s" % (form.name, missing))
@@ -266,6 +228,7 @@ def compare_readers(form, reference, number, seed):
         fail("only %d answers for %s images were known before" % (known, form.name))
     listings(form, reference, made[:LISTED])
     print("tests: %d %s images listed as by tests/reference/%s.c" % (min(LISTED, number), form.name, form.name))
+    return counts
 
 
 def refusal(said):
@@ -273,84 +236,18 @@ def refusal(said):
     return int(said.split()[1]) if said.startswith("refused") else 0
 
 
-def boundary(folder, seed):
-    """The functions of crc_c and board_c, by tests/boundary.c: the board judge's number where it is known, and the check values of zlib and of
-    tiny_images.crc8. How many images there were."""
-    program = build_exported(folder, "boundary", "crc_c", "board_c")
-    made = [(image, "?") for _, image, _ in itertools.islice(tiny_images.images(seed), LENT)]
-    made += [(image, said) for _, image, said in itertools.islice(board_images.images(seed), LENT)]
-    said = output(program, given=b"".join(len(image).to_bytes(4, "little") + image for image, _ in made)).decode().splitlines()
+def compare_crcs(folder, libraries, seed):
+    """The functions of crc_c, by tests/crcs.c: the check values of tiny_images.crc8 and of zlib."""
+    program = build(folder, "crcs", "tests/crcs.c", libraries["crc_c"])
+    made = [image for form in (TINY, BOARD) for _, image, _ in itertools.islice(form.images(seed), LENT)]
+    said = output(program, given=b"".join(len(image).to_bytes(4, "little") + image for image in made)).decode().splitlines()
     if len(said) != len(made):
-        fail("%d images, %d answered by the functions exported to C" % (len(made), len(said)))
-    for line, (image, known) in zip(said, made):
-        number, *checks = map(int, line.split())
+        fail("%d images, %d summed by the functions exported to C" % (len(made), len(said)))
+    for line, image in zip(said, made):
         blank = image[:0x14] + bytes(len(image[0x14:0x18])) + image[0x18:]
-        if checks != [tiny_images.crc8(image), zlib.crc32(image), zlib.crc32(blank)] or known != "?" and number != refusal(known):
-            fail("image %s (made to be %s) is answered %s by the functions exported to C" % (shown(image), known, line))
-    return len(made)
-
-
-def list_record(form, rnd, mask, image):
-    """A record for tests/lists.c: the number of a board's format is any but 0, and bits of no kind of the format count for nothing."""
-    number = 0 if form is TINY else rnd.randint(1, 255)
-    return bytes([number]) + record(BOARD, mask | rnd.getrandbits(32) & ~form.full, image)
-
-
-def written_lists(program, records):
-    """What tests/lists.c writes. It stops at a record where something is changed, or read, that may not be."""
-    try:
-        return output(program, given=b"".join(records))
-    except subprocess.CalledProcessError as stopped:
-        fail("tests/lists.c stopped with status %d at the record %s" % (stopped.returncode, shown(records[stopped.output.count(b"list ") - 1])))
-
-
-def items_of(said):
-    """The items that a reference answers: each with its kind as a number, place, data length, and whether it is known."""
-    return [(int.from_bytes(bytes.fromhex(kind), "little"), int(place), int(length), not unknown)
-            for kind, place, length, unknown in ITEM.findall(said)]
-
-
-def answers_due(judged, items):
-    """What must be answered for the four lists of tests/lists.c, and for the steps: one to each item, and four that no item is left for."""
-    if refusal(judged):
-        number, place = map(int, judged.split()[1:])
-        return [number << 32 | place] * 4, [number << 32 | place] * 4
-    if judged != "accepted %d" % len(items):
-        fail("a reference shows %d items of an image that is %s" % (len(items), judged))
-    short = SHORT if items else 0
-    return [len(items), len(items), short, short], [place for _, place, _, _ in items] + [NONE_LEFT] * 4
-
-
-def lists_due(said):
-    """What tests/lists.c must write of an image, by what a reference answers, and how often each outcome is in it."""
-    judged, items = said.split("\n")[1], items_of(said)
-    lists, steps = answers_due(judged, items)
-    entries = "".join("entry %016X place %d length %d %s\n" % (*entry, "known" if known else "unknown") for *entry, known in items)
-    numbers = (*range(len(items) + 2), 1 << 32, (1 << 64) - 1)
-    text = "".join("%s %016X\n" % (room, answer) + (entries if answer == len(items) else "")
-                   for room, answer in zip(("more", "exact", "less", "none"), lists))
-    text += "".join("step %d %016X\n" % step for step in zip(numbers, steps))
-    known = sum(item[-1] for item in items)
-    return text.encode(), (not refusal(judged), refusal(judged) > 0, known, len(items) - known, lists.count(SHORT))
-
-
-def compare_lists(form, reference, program, number, seed):
-    """The lists and the walks of a format through C: all entries and steps, each outcome reached."""
-    rnd, counts = random.Random(seed), dict.fromkeys(("accepted", "refused", "items known", "items not known", "lists too short"), 0)
-    for run, expected in streams(form, itertools.islice(form.images(seed), number), seed):
-        records = [list_record(form, rnd, mask, image) for _, image, mask, _ in expected]
-        for a, b, one in answered(written_lists(program, records), output(reference, form.items, given=run), records):
-            said = a.split(b"\n", 1)[1]
-            due, outcomes = lists_due(b.decode())
-            if said != due:
-                fail("record %s for tests/lists.c:\n%s\nby the reference:\n%s" % (shown(one), shortened(said).decode(), shortened(due).decode()))
-            for name, times in zip(counts, outcomes):
-                counts[name] += times
-    print("tests: %d %s images with two lists each, listed and walked through C as tests/reference/%s.c shows their items"
-          % (number, form.name, form.name))
-    print("tests: " + ", ".join("%s %d" % count for count in counts.items()))
-    if not all(counts.values()):
-        fail("not every outcome was among the answers for lists of %s images" % form.name)
+        if list(map(int, line.split())) != [tiny_images.crc8(image), zlib.crc32(image), zlib.crc32(blank)]:
+            fail("the check values of image %s are %s by the functions exported to C" % (shown(image), line))
+    print("tests: %d images summed through C, between pages that cannot be read, as by zlib and a plain loop" % len(made))
 
 
 def lines(form, made, seed):
@@ -403,19 +300,18 @@ def compare_lines(form, reference, made, seed):
 
 
 def compare_writers(form, reference, number, seed):
-    """The requests to the writer of a format: every answer, each refusal number reached."""
+    """The requests to the writer of a format: every answer, each refusal number reached. How often each number was answered."""
     order = form.runs.ORDER
     counts, known = compare_lines(form, reference, itertools.islice(form.runs.requests(seed), number), seed)
     print("tests: %d lines to the %s writer answered as by tests/reference/%s, %d of them with an answer known before"
           % (sum(counts.values()), form.name, form.sources[-1], known))
-    print("tests: written %d; refused " % counts.get(0, 0) + ", ".join("%d: %d" % (n, counts.get(n, 0)) for n in order)
-          + "; no request %d" % counts.get("none", 0))
     missing = [n for n in (0, *order) if not counts.get(n)]
     if missing:
         fail("no request to the %s writer was answered with %s" % (form.name, missing))
     others = sorted(set(counts) - {0, "none", *order}, key=str)
     if others or 2 * known < sum(counts.values()):
         fail("the %s writer said %s, and %d answers were known before" % (form.name, others, known))
+    return {number: times for number, times in counts.items() if number != "none"}
 
 
 def pair_runs(made):
@@ -449,28 +345,59 @@ def compare_choices(reference, number, seed):
         fail("of %d pairs %s were chosen, and %d answers were known before" % (number, counts, known))
 
 
+def fixed(references):
+    """What needs no images made: samples, stored answers, input that is too long or cannot be read."""
+    print("tests: %d samples listed as stored" % samples(references))
+    stored_answers(references)
+    other_input()
+    long_run(references)
+    for form in (TINY, BOARD):
+        long_requests(form, references[form])
+
+
+jobs = []  # functions with their arguments; the processes below inherit them
+
+
+def printed(number):
+    """Runs the job of a number: what it prints and returns, and whether it came to its end."""
+    function, *given = jobs[number]
+    with io.StringIO() as text, contextlib.redirect_stdout(text):
+        try:
+            returned = function(*given)
+            return text.getvalue(), returned, True
+        except SystemExit:
+            return text.getvalue(), None, False
+
+
+def run_jobs():
+    """Runs the jobs beside each other, as many as there are processors, prints what they print in their order, and returns what they return."""
+    out = []
+    with multiprocessing.get_context("fork").Pool() as pool:
+        for text, returned, ended in pool.imap(printed, range(len(jobs))):
+            print(text, end="", flush=True)
+            if not ended:
+                sys.exit(1)
+            out.append(returned)
+    return out
+
+
 def main():
     os.chdir(os.path.join(os.path.dirname(os.path.abspath(__file__)), ".."))
     number = int(sys.argv[1]) if len(sys.argv) > 1 else 20000
     seed = int(sys.argv[2]) if len(sys.argv) > 2 else 1
     boards = int(sys.argv[3]) if len(sys.argv) > 3 else 12000
+    begun = exporting("host", "reader_c", "crc_c")
     with tempfile.TemporaryDirectory() as folder:
         references = {form: build(folder, form.name, *("tests/reference/" + name for name in form.sources)) for form in (TINY, BOARD)}
-        print("tests: %d samples listed as stored" % samples(references))
-        stored_answers(references)
-        other_input()
-        long_run(references)
-        for form in (TINY, BOARD):
-            long_requests(form, references[form])
-        compare_readers(TINY, references[TINY], number, seed)
-        compare_readers(BOARD, references[BOARD], boards, seed)
-        print("tests: %d images lent to C functions between pages that cannot be read, answered as they should be" % boundary(folder, seed))
-        lists = build_exported(folder, "lists", "reader_c")
-        compare_lists(TINY, references[TINY], lists, number // 3, seed)
-        compare_lists(BOARD, references[BOARD], lists, boards // 3, seed)
-        compare_writers(TINY, references[TINY], max(number, REQUESTS), seed)
-        compare_writers(BOARD, references[BOARD], boards // 3, seed)
-        compare_choices(references[BOARD], boards // 3, seed)
+        jobs.extend([(compare_readers, TINY, references[TINY], number, seed), (compare_readers, BOARD, references[BOARD], boards, seed),
+                     (compare_writers, TINY, references[TINY], max(number, REQUESTS), seed),
+                     (compare_writers, BOARD, references[BOARD], boards // 3, seed),
+                     (compare_choices, references[BOARD], boards // 3, seed), (fixed, references)])
+        columns = dict(zip(("tiny-reader", "board-reader", "tiny-writer", "board-writer"), run_jobs()))
+        libraries = exported(begun)
+        compare_crcs(folder, libraries, seed)
+        try_upload(folder, libraries)
+        table({**columns, **compare_host(folder, libraries, IMAGES, seed)}, (0, *TINY.rules, *BOARD.rules, *range(40, 47)))
 
 
 main()

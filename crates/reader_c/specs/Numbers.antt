@@ -1,28 +1,25 @@
 -- What C passes and gets as numbers: the format, the answer for the list, and what a step shows. Assumes nothing.
-use Prim.Native.Nat.{ℕ, _+_, _*_, _%_}
+use Prim.Native.Nat.{ℕ}
 use mathlib.Core.Bool.{cond}
 use mathlib.Core.List.{List}
 use lib.Dec.{eqb}
+use Rattle.host.specs.Numbers.{number}
+use Rattle.reader.specs.Values.{listSaid}
 use Rattle.reader.specs.declared.Entry.{Entry}
 use Rattle.reader.specs.declared.Format.{Format}
 use Rattle.reader.specs.declared.Format.the-variants.{Tiny, Board}
 use Rattle.reader.specs.declared.Item.{Item}
 use Rattle.reader.specs.declared.ListAnswer.{ListAnswer}
 use Rattle.reader.specs.declared.StepAnswer.{StepAnswer}
-use Rattle.verdict.specs.declared.Refusal.{Refusal}
+use Rattle.verdict.specs.Said.{says, refused}
 
 -- 0 for tiny images, any other number for board images
 abbrev pub formatOf : ℕ → Format
 formatOf n = cond (eqb n 0) Tiny Board
 
--- a refusal: its number in bits 32 to 39, its place in bits 0 to 31
-abbrev pub refusalNumber : Refusal → ℕ
-refusalNumber r = r .number * 0x100000000 + r .place % 0x100000000
-
 -- the answer for the list: the count, or the refusal
 abbrev pub listNumber : ListAnswer → ℕ
-listNumber (ListAnswer.Filled count) = count % 0x100000000
-listNumber (ListAnswer.Refused r) = refusalNumber r
+listNumber a = number (listSaid a)
 
 -- the answer as a number, and what the lent list then holds
 abbrev pub numbered : ListAnswer × List Entry → ℕ × List Entry
@@ -30,11 +27,11 @@ numbered x = (listNumber (x .0), x .1)
 
 -- what a step shows: the item's place; bit 40 where none is left, bit 41 where no step was made; or the refusal
 abbrev pub itemPlace : Item → ℕ
-itemPlace (Item.Tiny x) = x .place % 0x100000000
-itemPlace (Item.Board x) = x .place % 0x100000000
+itemPlace (Item.Tiny x) = number (says (x .place))
+itemPlace (Item.Board x) = number (says (x .place))
 
 abbrev pub stepNumber : StepAnswer → ℕ
 stepNumber StepAnswer.Nothing = 0x20000000000
 stepNumber (StepAnswer.Shown x) = itemPlace x
 stepNumber StepAnswer.NoneLeft = 0x10000000000
-stepNumber (StepAnswer.Refused r) = refusalNumber r
+stepNumber (StepAnswer.Refused r) = number (refused (r .number) (r .place))

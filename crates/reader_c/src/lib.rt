@@ -1,6 +1,8 @@
 // The reader, for C. A slice is a pointer and a length:
 // uint64_t reader_list(uint32_t format, const uint8_t *image, size_t n, uint32_t kinds, Entry *out, size_t room);
 // uint64_t reader_step(uint32_t format, const uint8_t *image, size_t n, uint32_t kinds, size_t number).
+use host::refusal_number;
+use host::value_number;
 use kinds::Kinds;
 use reader::Entry;
 use reader::Format;
@@ -9,12 +11,11 @@ use reader::ListAnswer;
 use reader::StepAnswer;
 use reader::list;
 use reader::step_numbered;
-use verdict::Refusal;
 ghost use mathlib.Core.Path.{_≡_};
 ghost use Rattle.kinds.specs.Kinds.{fromBits};
 ghost use Rattle.reader.specs.Answers.{listOf};
 ghost use Rattle.reader.specs.Walk.{stepNumbered};
-ghost use Rattle.reader_c.specs.Numbers.{formatOf, refusalNumber, listNumber, numbered, itemPlace, stepNumber};
+ghost use Rattle.reader_c.specs.Numbers.{formatOf, listNumber, numbered, itemPlace, stepNumber};
 
 // The format of a number: 0 for tiny images, any other for board images.
 fn format_of(number: u32) -> Format
@@ -26,22 +27,12 @@ fn format_of(number: u32) -> Format
     Format::Board
 }
 
-// A refusal as one number: its number in bits 32 to 39, its place in bits 0 to 31.
-fn refusal_number(refusal: Refusal) -> u64
-    ensures { λ r. ⌜ r ≡ refusalNumber refusal ⌝ }
-{
-    let number = refusal.number as u64 * 0x1_0000_0000;
-    let place = refusal.place as u64 % 0x1_0000_0000;
-    let both = number + place;
-    both
-}
-
 // The answer for the list as one number: the count, or the refusal.
 fn list_number(answer: ListAnswer) -> u64
     ensures { λ r. ⌜ r ≡ listNumber answer ⌝ }
 {
     match answer {
-        ListAnswer::Filled(count) => count as u64 % 0x1_0000_0000,
+        ListAnswer::Filled(count) => value_number(count),
         ListAnswer::Refused(refusal) => refusal_number(refusal),
     }
 }
@@ -51,8 +42,8 @@ fn item_place(item: Item) -> u64
     ensures { λ r. ⌜ r ≡ itemPlace item ⌝ }
 {
     match item {
-        Item::Tiny(shown) => shown.place as u64 % 0x1_0000_0000,
-        Item::Board(shown) => shown.place as u64 % 0x1_0000_0000,
+        Item::Tiny(shown) => value_number(shown.place),
+        Item::Board(shown) => value_number(shown.place),
     }
 }
 

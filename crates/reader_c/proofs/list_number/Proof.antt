@@ -8,6 +8,9 @@ use Rattle.reader_c.specs.Numbers.{listNumber}
 enum-known-answer : tie.Need-enum-known-answer
 enum-known-answer c = search needs
 
+value-number-requires : tie.Need-value-number-requires
+value-number-requires c κs = search needs
+
 enum-known-answer-2 : tie.Need-enum-known-answer-2
 enum-known-answer-2 c = search needs
 
@@ -15,7 +18,7 @@ refusal-number-requires : tie.Need-refusal-number-requires
 refusal-number-requires c κs = search needs
 
 returns : tie.Need-returns
-returns c = sym (ap listNumber (c .before .answer .given .1))
+returns c = c .value-number .ensures ∙ sym (ap listNumber (c .before .before .answer .given .1))
 
 returns-2 : tie.Need-returns-2
 returns-2 c = c .refusal-number .ensures ∙ sym (ap listNumber (c .before .before .answer2 .given .1))
@@ -23,4 +26,10 @@ returns-2 c = c .refusal-number .ensures ∙ sym (ap listNumber (c .before .befo
 pub list-number-spec : {M : Type 1} → statement M
 list-number-spec =
     tie.close
-    (tie.spec enum-known-answer enum-known-answer-2 refusal-number-requires returns returns-2)
+    (tie.spec
+    enum-known-answer
+    value-number-requires
+    enum-known-answer-2
+    refusal-number-requires
+    returns
+    returns-2)

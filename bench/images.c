@@ -1,0 +1,166 @@
+// Makes the images. Their check fields are worked out here bit by bit (tiny) and by zlib (boards), not by the code that is timed.
+#include "images.h"
+
+#include <string.h>
+#include <zlib.h>
+
+enum { TINY_LONGEST = 255, HEADER_SIZE = 0x30, MAP_SIZE = 0x50, INFO_SIZE = 0x60, FIRST = HEADER_SIZE + MAP_SIZE + INFO_SIZE };
+
+// ---- tiny images ----
+
+// Appends bytes, and answers the place after them.
+static size_t add(uint8_t *image, size_t at, const void *bytes, size_t n) {
+    memcpy(image + at, bytes, n);
+    return at + n;
+}
+
+// Appends a text of the pool: its last byte has the end mark.
+static size_t add_text(uint8_t *image, size_t at, const char *text) {
+    size_t end = add(image, at, text, strlen(text));
+    image[end - 1] |= 0x80;
+    return end;
+}
+
+// The tag of the pool, and its length once the texts stand behind it.
+static size_t add_pool(uint8_t *image, size_t at, const char *const *texts, size_t count) {
+    size_t end = at + 2;
+    for (size_t i = 0; i < count; i++) {
+        end = add_text(image, end, texts[i]);
+    }
+    image[at] = 0x01;
+    image[at + 1] = (uint8_t)(end - at - 2);
+    return end;
+}
+
+// Head and check byte of an image whose items end here; its length.
+static size_t seal(uint8_t *image, size_t end) {
+    uint8_t head[] = {0x56, 2, (uint8_t)(end + 1)}, crc = 0;
+    memcpy(image, head, sizeof head);
+    for (size_t i = 0; i < end; i++) {
+        crc ^= image[i];
+        for (int k = 0; k < 8; k++) {
+            crc = (uint8_t)(crc & 0x80 ? crc << 1 ^ 0x07 : crc << 1);
+        }
+    }
+    image[end] = crc;
+    return end + 1;
+}
+
+// Serial, identity with a batch, address, flags and a pool of two texts.
+static size_t typical_chip(uint8_t *image) {
+    static const uint8_t items[] = {0x10, 0,                                          // serial
+                                    0x80, 0,    1,    3,    14,   'B', '2', 0x39, 5,  // identity, batch 1337
+                                    0x60, 0x02, 0x00, 0x5E, 0x10, 0x20, 0x30,         // address
+                                    0x11, 0x05};                                      // flags
+    static const char *const texts[] = {"RIG7-2024-001337", "POWER-STAGE-TOP-48"};
+    return seal(image, add_pool(image, add(image, 3, items, sizeof items), texts, 2));
+}
+
+// 255 bytes: one serial, an address, each identity, a pool, and between them items of two bytes, in turn flags and a tag that no list has.
+static size_t many_items(uint8_t *image) {
+    static const uint8_t front[] = {0x10, 4,                                     // serial
+                                    0x60, 0x02, 0x00, 0x5E, 0x10, 0x20, 0x30,    // address
+                                    0x61, 0, 1, 0x63, 99, 'A', '1',              // identity
+                                    0x62, 1, 2, 0x80, 0,  'Z', '9',              // identity
+                                    0x80, 2, 3, 0x99, 7,  ' ', '~', 0x0F, 0x27,  // identity, batch 9999
+                                    0x81, 3, 4, 0,    42, 'B', 'C', 0,    1};    // identity, batch 256
+    static const char *const texts[] = {"top1", "left", "A2", "power-42", "rig-000815"}; // 28 bytes
+    size_t at = add(image, 3, front, sizeof front), pool = TINY_LONGEST - 1 - 28 - 2;
+    for (uint8_t i = 0; at < pool; i++) {
+        uint8_t item[] = {i % 2 ? 0x12 : 0x11, i};
+        at = add(image, at, item, sizeof item);
+    }
+    return seal(image, add_pool(image, at, texts, 5));
+}
+
+// ---- boards ----
+
+static void put32(uint8_t *at, uint32_t n) {
+    for (int i = 0; i < 4; i++) {
+        at[i] = (uint8_t)(n >> (8 * i));
+    }
+}
+
+// A generic head of version 1.0, and zeros for the rest of the structure.
+static uint8_t *head(uint8_t *at, const char *signature, size_t length) {
+    memset(at, 0, length);
+    memcpy(at, signature, strlen(signature));
+    at[8] = 1;
+    put32(at + 0x0C, (uint32_t)length);
+    return at;
+}
+
+// Header, map of one record, and board: the rest of the image is to be filled from FIRST on.
+static void begin(uint8_t *image) {
+    put32(head(image, "$Eeprom$", HEADER_SIZE) + 0x10, LONGEST);
+    uint8_t *map = head(image + HEADER_SIZE, "$EeprMap", MAP_SIZE);
+    memcpy(map + 0x10, "rig$", 4);
+    put32(map + 0x20, LONGEST);
+    put32(map + 0x26, LONGEST);
+    memcpy(map + 0x30, "top1$", 5);
+    put32(map + 0x40, 0x20);
+    head(image + HEADER_SIZE + MAP_SIZE, "$BrdInfo", INFO_SIZE);
+}
+
+// The check over the whole image, its own field counted as zero; the image's length.
+static size_t finish(uint8_t *image) {
+    put32(image + 0x14, 0);
+    put32(image + 0x18, LONGEST);
+    put32(image + 0x14, (uint32_t)crc32(0, image, LONGEST));
+    return LONGEST;
+}
+
+// One structure that fills the image.
+static size_t one_logo(uint8_t *image) {
+    begin(image);
+    uint8_t *logo = head(image + FIRST, "$Logo$", LONGEST - FIRST);
+    for (size_t i = 0x20; i < LONGEST - FIRST; i++) {
+        logo[i] = (uint8_t)(i * 7 + i / 251);
+    }
+    return finish(image);
+}
+
+// 64 structures of 1,024 bytes after the board structure, of eight known kinds and one that no list has, in turn; the last one is shorter.
+static size_t many_kinds(uint8_t *image) {
+    static const char *const kinds[] = {"$AcpiTbl", "$FPGAnfo", "$HdCodec", "$Logo$", "$MemCnfg", "$MacInfo", "$uCode$", "$Video$", "$Fan"};
+    begin(image);
+    size_t at = FIRST;
+    for (int k = 0; at < LONGEST; k++) {
+        size_t n = LONGEST - at < 1024 ? LONGEST - at : 1024;
+        head(image + at, kinds[k % 9], n);
+        at += n;
+    }
+    return finish(image);
+}
+
+// One structure of GPIO records, each with a label; an empty structure fills what is left.
+static size_t gpio_records(uint8_t *image) {
+    begin(image);
+    size_t n = (LONGEST - FIRST - 0x20 - 0x10) / 0x30, length = 0x20 + n * 0x30;
+    uint8_t *gpio = head(image + FIRST, "$GpioDat", length);
+    for (size_t i = 0; i < n; i++) {
+        uint8_t *record = gpio + 0x20 + i * 0x30;
+        memcpy(record, "sixteen letters.", 16);
+        put32(record + 0x10, 0x30);
+        record[0x20] = 4;
+    }
+    size_t end = FIRST + length;
+    if (end < LONGEST) head(image + end, "$Fan", LONGEST - end);
+    return finish(image);
+}
+
+// Heads and nothing else: 4,082 structures of 16 bytes.
+static size_t only_heads(uint8_t *image) {
+    begin(image);
+    for (size_t at = FIRST; at < LONGEST; at += 0x10) {
+        head(image + at, "$Fan", 0x10);
+    }
+    return finish(image);
+}
+
+const Maker makers[IMAGES] = {{"typical chip", TINY, typical_chip},
+                              {"chip of many items", TINY, many_items},
+                              {"one large structure", BOARD, one_logo},
+                              {"64 structures", BOARD, many_kinds},
+                              {"1,359 GPIO records", BOARD, gpio_records},
+                              {"4,082 empty structures", BOARD, only_heads}};

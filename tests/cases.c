@@ -1,0 +1,183 @@
+/*
+ * The cases of paper 01 through C: what the functions of host/chip.h must answer, as the paper has it. Exit: 0 if they do, 1 at the first that does not.
+ */
+#include <stdio.h>
+#include <stdlib.h>
+#include <string.h>
+
+#include "../host/chip.h"
+
+enum { FULL = CHIP_KINDS_FULL, ROOM = 8192, HEADER = 0x30, MAP = 0x30, RECORD = 0x20, BOARD = 0x60 };
+
+#define ACCEPTED(value) ((uint64_t)(value))
+#define REFUSED(number, place) ((uint64_t)(number) << 32 | (place))
+#define EEPROM(length) (UINT64_C(1) << 40 | (length))
+
+static unsigned calls;
+
+static void is(const char *what, uint64_t answer, uint64_t due) {
+    if (answer != due) {
+        printf("case %s: answered %u at or with %u, and not %u at or with %u\n", what, chip_refusal(answer), (unsigned)(answer & UINT32_MAX),
+               chip_refusal(due), (unsigned)(due & UINT32_MAX));
+        exit(1);
+    }
+    calls++;
+}
+
+/* ---- tiny images ---- */
+
+/* x^8 + x^2 + x + 1, highest bit first, start 0, nothing inverted */
+static uint8_t crc8(const uint8_t *bytes, size_t count) {
+    uint8_t crc = 0;
+    for (size_t i = 0; i < 8 * count; i++) {
+        int out = crc >> 7 ^ (bytes[i / 8] >> (7 - i % 8) & 1);
+        crc = (uint8_t)(crc << 1 ^ (out ? 0x07 : 0));
+    }
+    return crc;
+}
+
+static uint64_t judge(const char *bytes, size_t length) {
+    return chip_tiny_judge((const uint8_t *)bytes, length, FULL);
+}
+
+/* an identity with this major and batch, and a pool of one string */
+static uint64_t judge_identity(uint8_t major, unsigned batch) {
+    uint8_t image[] = {0x56, 2, 16, 0x80, 0, 0, major, 0, 'A', 'B', (uint8_t)batch, (uint8_t)(batch >> 8), 0x01, 1, 'x' | 0x80, 0};
+    image[sizeof image - 1] = crc8(image, sizeof image - 1);
+    return chip_tiny_judge(image, sizeof image, FULL);
+}
+
+static const uint8_t case_4[] = {0x56, 0x02, 0x0C, 0x10, 0x00, 0x01, 0x04, 0x74, 0x6F, 0x70, 0xB1, 0x57};
+
+/* a name, and what the buffer then holds */
+static void name_is(const char *what, uint32_t kinds, size_t room, uint64_t due, const char *held) {
+    uint8_t buffer[8];
+    memset(buffer, '.', sizeof buffer);
+    is(what, chip_tiny_name(case_4, sizeof case_4, kinds, buffer, room), due);
+    is(what, (uint64_t)memcmp(buffer, held, sizeof buffer), 0);
+}
+
+static void tiny_cases(void) {
+    is("1", chip_tiny_judge(NULL, 0, FULL), REFUSED(1, 0));
+    is("2", judge("\x56\x02\x04\x6F", 4), ACCEPTED(0));
+    is("3", judge("\x56\x02\x04\x6E", 4), REFUSED(5, 3));
+    is("4", chip_tiny_judge(case_4, sizeof case_4, FULL), ACCEPTED(2));
+    name_is("4", FULL, 8, ACCEPTED(4), "top1....");
+    name_is("4", FULL, 4, ACCEPTED(4), "top1....");
+    name_is("4", FULL, 3, REFUSED(43, 0), "........");
+    is("5", judge("\x56\x02\x06\x11\x0F\x8F", 6), ACCEPTED(1));
+    is("6", judge("\x56\x03\x04\x6F", 4), REFUSED(3, 1));
+    is("7", judge("\x56\x02\x05\x6F", 4), REFUSED(4, 2));
+    is("8", judge_identity(0x63, 0), ACCEPTED(2));
+    is("8", judge_identity(0x64, 0), REFUSED(11, 6));
+    is("8", judge_identity(0x99, 0), ACCEPTED(2));
+    is("8", judge_identity(0x9A, 0), REFUSED(11, 6));
+    is("9", judge_identity(0, 9999), ACCEPTED(2));
+    is("9", judge_identity(0, 10000), REFUSED(11, 10));
+    is("14", chip_tiny_judge(case_4, sizeof case_4, FULL & ~CHIP_KIND_01), ACCEPTED(2));
+    name_is("14", FULL & ~CHIP_KIND_01, 8, REFUSED(44, 0), "........");
+}
+
+/* ---- board images ---- */
+
+static void put(uint8_t *to, uint32_t value) {
+    for (int i = 0; i < 4; i++)
+        to[i] = (uint8_t)(value >> 8 * i);
+}
+
+static void put_head(uint8_t *to, const char *signature, uint32_t length) {
+    memcpy(to, signature, 8);
+    to[8] = 1;
+    put(to + 0x0C, length);
+}
+
+/* the common CRC-32 of IEEE 802.3 */
+static uint32_t crc32(const uint8_t *bytes, size_t count) {
+    uint32_t crc = UINT32_MAX;
+    for (size_t i = 0; i < 8 * count; i++) {
+        uint32_t out = (crc ^ bytes[i / 8] >> i % 8) & 1;
+        crc = crc >> 1 ^ (out ? 0xEDB88320 : 0);
+    }
+    return ~crc;
+}
+
+struct board {
+    uint32_t length, place; /* of the image; of the board structure */
+    uint8_t bytes[ROOM];
+};
+
+/* Crc32 is zero while it is summed. */
+static void seal(struct board *b) {
+    put(b->bytes + 0x14, 0);
+    put(b->bytes + 0x14, crc32(b->bytes, b->length));
+}
+
+/* the header, a map of this many records, and the board structure */
+static struct board *board(struct board *b, uint32_t records, uint32_t version) {
+    uint32_t block = 0x1000;
+    memset(b, 0, sizeof *b);
+    b->place = HEADER + MAP + RECORD * records;
+    b->length = b->place + BOARD;
+    put_head(b->bytes, "$Eeprom$", HEADER);
+    put(b->bytes + 0x10, b->length);
+    put(b->bytes + 0x18, b->length);
+    put(b->bytes + 0x1C, version);
+    uint8_t *map = b->bytes + HEADER;
+    put_head(map, "$EeprMap", MAP + RECORD * records);
+    memcpy(map + 0x10, "top1$", 5);
+    put(map + 0x20, block);
+    put(map + 0x26, records * block);
+    for (uint32_t k = 0; k < records; k++) {
+        uint8_t *record = map + MAP + RECORD * k;
+        record[0] = '$';
+        put(record + 0x10, RECORD);
+        put(record + 0x14, k * block);
+    }
+    put_head(b->bytes + b->place, "$BrdInfo", BOARD);
+    seal(b);
+    return b;
+}
+
+static uint64_t judge_board(struct board *b) {
+    return chip_board_judge(b->bytes, b->length, FULL);
+}
+
+/* The choice where the EEPROM image has another byte at a place of its board structure; no place: 0. */
+static uint64_t choice(uint32_t firmware, uint32_t eeprom, uint32_t place) {
+    static struct board a, b;
+    board(&a, 1, firmware);
+    board(&b, 1, eeprom);
+    if (place) {
+        b.bytes[b.place + place] ^= 0x01;
+        seal(&b);
+    }
+    return chip_board_choice(a.bytes, a.length, b.bytes, b.length, FULL);
+}
+
+static void board_cases(void) {
+    static struct board b;
+    is("10", judge_board(board(&b, 1, 1)), ACCEPTED(3));
+    memset(b.bytes + HEADER + 0x10, 0, 16);
+    seal(&b);
+    is("10", judge_board(&b), REFUSED(30, 0x40));
+    is("11", choice(3, 4, 0), EEPROM(0xE0));
+    is("11", choice(4, 4, 0), ACCEPTED(0xE0));
+    is("11, BrdSerial", choice(3, 4, 0x30), EEPROM(0xE0));
+    is("11, EcId", choice(3, 4, 0x48), ACCEPTED(0xE0));
+    is("12", judge_board(board(&b, 122, 1)), ACCEPTED(3));
+    is("12", b.length, 0x1000);
+    board(&b, 123, 1);
+    is("12", judge_board(&b), REFUSED(28, b.place));
+    board(&b, 1, 1);
+    b.bytes[0x80 + 0x4C] = 2; /* BoardType: the board structure is at 80h */
+    seal(&b);
+    is("13", judge_board(&b), REFUSED(31, 0x80 + 0x4C));
+    is("13", chip_board_choice(NULL, 0, board(&b, 1, 1)->bytes, ROOM, FULL), EEPROM(0xE0));
+}
+
+int main(void) {
+    tiny_cases();
+    board_cases();
+    printf("the papers' cases 1 to 14 through C, %u answers as they must be\n", calls);
+    return 0;
+}

@@ -1,0 +1,1152 @@
+//! A reader of tiny (001, Kontron) and board (000, Intel) EEPROM images, written from the papers
+//! alone. "Rule n" is refusal number n of the build paper, 01-scope.md; rows are those of 000.
+
+use std::hint::black_box;
+use std::mem::MaybeUninit;
+
+/// A refusal as it is answered: its number from bit 32 on, its place below.
+#[derive(Clone, Copy, Debug, PartialEq)]
+struct Refusal(u64);
+
+type Judged<T> = Result<T, Refusal>;
+
+fn refusal(number: u8, place: usize) -> Refusal {
+    Refusal(u64::from(number) << 32 | place as u64)
+}
+
+/// Refuses if something is broken, so many bytes after a place.
+fn hold(number: u8, place: usize, broken: Option<usize>) -> Judged<()> {
+    broken.map_or(Ok(()), |i| Err(refusal(number, place + i)))
+}
+
+/// The refusal to give of those met so far: the lowest number, within it the smallest place.
+struct Least(Judged<()>);
+
+impl Least {
+    fn note(&mut self, number: u8, place: usize, broken: Option<usize>) {
+        if let Err(new) = hold(number, place, broken) {
+            self.0 = Err(self.0.map_or_else(|old| Refusal(old.0.min(new.0)), |()| new));
+        }
+    }
+}
+
+// ---- check numbers ----
+
+static CRC8: [u8; 256] = crc8_table();
+static CRC32: [[u32; 256]; 16] = crc32_tables();
+
+/// x^8 + x^2 + x + 1, highest bit first.
+const fn crc8_table() -> [u8; 256] {
+    let mut table = [0; 256];
+    let mut i = 0;
+    while i < 8 * 256 {
+        let crc = if i % 8 == 0 { (i / 8) as u8 } else { table[i / 8] };
+        table[i / 8] = crc << 1 ^ if crc & 0x80 != 0 { 0x07 } else { 0 };
+        i += 1;
+    }
+    table
+}
+
+/// IEEE 802.3, reflected; table k is for a byte with k more bytes after it in its block.
+const fn crc32_tables() -> [[u32; 256]; 16] {
+    let mut tables = [[0; 256]; 16];
+    let mut i = 0;
+    while i < 8 * 256 {
+        let crc = if i % 8 == 0 { (i / 8) as u32 } else { tables[0][i / 8] };
+        tables[0][i / 8] = crc >> 1 ^ if crc & 1 != 0 { 0xEDB8_8320 } else { 0 };
+        i += 1;
+    }
+    i = 256;
+    while i < 16 * 256 {
+        let before = tables[i / 256 - 1][i % 256];
+        tables[i / 256][i % 256] = before >> 8 ^ tables[0][(before & 0xFF) as usize];
+        i += 1;
+    }
+    tables
+}
+
+fn crc8(bytes: &[u8]) -> u8 {
+    bytes.iter().fold(0, |crc, byte| CRC8[usize::from(crc ^ byte)])
+}
+
+/// One stretch of a CRC-32, without the inversions at start and end.
+fn crc32(mut crc: u32, bytes: &[u8]) -> u32 {
+    let (blocks, tail) = bytes.as_chunks::<16>();
+    for block in blocks {
+        let front = (crc ^ u32_at(block, 0)).to_le_bytes();
+        crc = 0;
+        for i in 0..16 {
+            let byte = if i < 4 { front[i] } else { block[i] };
+            crc ^= CRC32[15 - i][usize::from(byte)];
+        }
+    }
+    tail.iter().fold(crc, |crc, byte| crc >> 8 ^ CRC32[0][usize::from(crc as u8 ^ byte)])
+}
+
+// ---- small pieces ----
+
+fn u16_at<const N: usize>(bytes: &[u8; N], at: usize) -> u16 {
+    u16::from_le_bytes([bytes[at], bytes[at + 1]])
+}
+
+fn u32_at<const N: usize>(bytes: &[u8; N], at: usize) -> u32 {
+    u32::from_le_bytes([bytes[at], bytes[at + 1], bytes[at + 2], bytes[at + 3]])
+}
+
+fn nonzero(bytes: &[u8]) -> Option<usize> {
+    bytes.iter().position(|&byte| byte != 0)
+}
+
+fn is_character(byte: u8) -> bool {
+    matches!(byte, 0x20..=0x7E)
+}
+
+/// The first byte of the label at `at` with which it stops being the start of any good label.
+fn label_break<const N: usize>(bytes: &[u8; N], at: usize) -> Option<usize> {
+    let label = &bytes[at..at + 16];
+    let text = label.iter().position(|&byte| !is_character(byte) || byte == b'$')?;
+    match label[text] {
+        b'$' => nonzero(&label[text + 1..]).map(|i| at + text + 1 + i),
+        _ => Some(at + text),
+    }
+}
+
+// ---- tiny image ----
+
+/// The bit of each tag in the reader's list.
+static TAG_BITS: [u32; 256] = {
+    let (tags, mut bits, mut i) = ([0x01, 0x10, 0x11, 0x60, 0x61, 0x62, 0x80, 0x81], [0; 256], 0);
+    while i < 8 {
+        bits[tags[i]] = 1 << i;
+        i += 1;
+    }
+    bits
+};
+
+fn tag_known(kinds: u32, tag: u8) -> bool {
+    kinds & TAG_BITS[usize::from(tag)] != 0
+}
+
+#[derive(Clone, Copy)]
+struct TinyItem<'a> {
+    tag: u8,
+    place: usize,
+    /// Place of the first data byte.
+    inside: usize,
+    data: &'a [u8],
+}
+
+impl TinyItem<'_> {
+    fn end(&self) -> usize {
+        self.inside + self.data.len()
+    }
+}
+
+/// The item at a place, if it and its length byte end within the body.
+fn tiny_item(body: &[u8], place: usize) -> Option<TinyItem<'_>> {
+    let (&tag, rest) = body.get(place..)?.split_first()?;
+    let (length, inside, rest) = match tag >> 4 {
+        0 => rest.split_first().map(|(&length, rest)| (length, place + 2, rest))?,
+        n => (n, place + 1, rest),
+    };
+    Some(TinyItem { tag, place, inside, data: rest.get(..usize::from(length))? })
+}
+
+/// An accepted tiny image.
+struct Tiny<'a> {
+    /// The bytes before the check; the items start at 3.
+    body: &'a [u8],
+    kinds: u32,
+    count: usize,
+    /// The strings, empty without a pool; none at all if 01 is not on the list.
+    pool: Option<&'a [u8]>,
+}
+
+impl<'a> Tiny<'a> {
+    fn items(&self) -> impl Iterator<Item = TinyItem<'a>> {
+        let (body, mut at) = (self.body, 3);
+        std::iter::from_fn(move || {
+            let item = tiny_item(body, at)?;
+            at = item.end();
+            Some(item)
+        })
+    }
+}
+
+fn judge_tiny(image: &[u8], kinds: u32) -> Judged<Tiny<'_>> {
+    let body = tiny_frame(image)?;
+    let listed = tag_known(kinds, 0x01);
+    let (count, pool) = tiny_shape(body, listed)?;
+    let mut strings = 0;
+    if let Some(pool) = pool {
+        hold(9, pool.inside, pool_break(pool.data))?;
+        strings = pool.data.iter().filter(|&byte| byte & 0x80 != 0).count();
+    }
+    let pool = listed.then_some(pool.map_or(&[][..], |pool| pool.data));
+    let tiny = Tiny { body, kinds, count, pool };
+    tiny_contents(&tiny, strings)?;
+    Ok(tiny)
+}
+
+/// Rules 1 to 5: the bytes before the check.
+fn tiny_frame(image: &[u8]) -> Judged<&[u8]> {
+    let &[magic, version, length, _] = image.first_chunk().ok_or(refusal(1, 0))?;
+    if magic != 0x56 {
+        return Err(refusal(2, 0));
+    }
+    if version != 2 {
+        return Err(refusal(3, 1));
+    }
+    match image.get(..usize::from(length)) {
+        Some(&[ref body @ .., check]) if length >= 4 => {
+            hold(5, body.len(), (crc8(body) != check).then_some(0)).map(|()| body)
+        }
+        _ => Err(refusal(4, 2)),
+    }
+}
+
+/// Rules 6 to 8: the count of items, and the pool if it is there and listed.
+fn tiny_shape(body: &[u8], listed: bool) -> Judged<(usize, Option<TinyItem<'_>>)> {
+    let (mut at, mut count, mut pool, mut least) = (3, 0, None, Least(Ok(())));
+    while at < body.len() {
+        let item = tiny_item(body, at).ok_or(refusal(6, at))?;
+        least.note(7, at, (item.tag == 0x00).then_some(0));
+        if item.tag == 0x01 && listed {
+            least.note(8, at, (item.end() != body.len()).then_some(0));
+            pool = Some(item);
+        }
+        count += 1;
+        at = item.end();
+    }
+    least.0.map(|()| (count, pool))
+}
+
+/// Rule 9.
+fn pool_break(pool: &[u8]) -> Option<usize> {
+    let unmarked = pool.last().filter(|&byte| byte & 0x80 == 0).map(|_| pool.len() - 1);
+    pool.iter().position(|byte| !is_character(byte & 0x7F)).or(unmarked)
+}
+
+/// Rules 10 and 11, of known items.
+fn tiny_contents(tiny: &Tiny, strings: usize) -> Judged<()> {
+    let mut least = Least(Ok(()));
+    for item in tiny.items().filter(|item| tag_known(tiny.kinds, item.tag)) {
+        let indexes = match item.tag {
+            0x10 => 1,
+            0x61 | 0x62 | 0x80 | 0x81 => 2,
+            _ => continue,
+        };
+        if tiny.pool.is_some() {
+            let mut indexes = item.data.iter().take(indexes);
+            least.note(10, item.inside, indexes.position(|&index| usize::from(index) >= strings));
+        }
+        least.note(11, item.inside, identity_break(item.data));
+    }
+    least.0
+}
+
+/// Rule 11: the data of tags 61, 62, 80 and 81; that of tag 10 is too short to break it.
+fn identity_break(data: &[u8]) -> Option<usize> {
+    let &[_, _, major, minor, first, second, ref batch @ ..] = data else { return None };
+    match batch.first_chunk().map(|bytes| u16_at::<2>(bytes, 0)) {
+        _ if !matches!(major, 0..=0x63 | 0x80..=0x99) => Some(2),
+        _ if minor > 99 => Some(3),
+        _ if !is_character(first) || !is_character(second) => Some(4),
+        Some(10_000..) => Some(6),
+        _ => None,
+    }
+}
+
+/// 00h to 63h as '00' to '99', 80h to 99h as '0A' to '0Z'.
+fn major_text(major: u8) -> [u8; 2] {
+    match major {
+        0..=0x63 => [b'0' + major / 10, b'0' + major % 10],
+        _ => [b'0', b'A'.wrapping_add(major & 0x7F)],
+    }
+}
+
+/// The text of the only serial, end mark cleared, to the front of the buffer: rule 44, then 43.
+fn name_tiny(image: &[u8], kinds: u32, buffer: &mut [u8]) -> Judged<usize> {
+    let tiny = judge_tiny(image, kinds)?;
+    let mut serials = tiny.items().filter(|item| item.tag == 0x10 && tag_known(kinds, 0x10));
+    let (Some(serial), None, Some(pool)) = (serials.next(), serials.next(), tiny.pool) else {
+        return Err(refusal(44, 0));
+    };
+    let mut strings = pool.split_inclusive(|byte| byte & 0x80 != 0);
+    let text = serial.data.first().and_then(|&index| strings.nth(usize::from(index)));
+    let text = text.ok_or(refusal(44, 0))?;
+    let room = buffer.get_mut(..text.len()).ok_or(refusal(43, 0))?;
+    for (to, from) in room.iter_mut().zip(text) {
+        *to = from & 0x7F;
+    }
+    Ok(text.len())
+}
+
+/// Goes from item to item and shows each; the count of known ones.
+fn walk_tiny(image: &[u8], kinds: u32) -> Judged<usize> {
+    let tiny = judge_tiny(image, kinds)?;
+    let (mut bounds, mut strings, mut known) = ([0u8; 257], 0, 0);
+    let marked = tiny.pool.unwrap_or(&[]).iter().zip(1..).filter(|&(byte, _)| byte & 0x80 != 0);
+    for (bound, (_, end)) in bounds.iter_mut().skip(1).zip(marked) {
+        *bound = end;
+        strings += 1;
+    }
+    let text = |index: u8| {
+        let (from, to) = (bounds[usize::from(index)], bounds[usize::from(index) + 1]);
+        tiny.pool?.get(usize::from(from)..usize::from(to))
+    };
+    for item in tiny.items() {
+        black_box((item.tag, item.place, item.data.len()));
+        if !tag_known(kinds, item.tag) {
+            continue;
+        }
+        known += 1;
+        match (item.tag, item.data) {
+            (0x01, pool) => _ = black_box((item.inside, pool.len(), strings)),
+            (0x10, &[index]) => _ = black_box(text(index)),
+            (0x11, &[flags]) => _ = black_box(flags),
+            (0x60, &[a, b, c, d, e, f]) => _ = black_box([a, b, c, d, e, f]),
+            (_, &[serial, part, major, minor, first, second, ref batch @ ..]) => {
+                black_box((text(serial), text(part), major_text(major), minor));
+                black_box(([first, second], batch.first_chunk().map(|b| u16_at::<2>(b, 0))));
+            }
+            _ => {}
+        }
+    }
+    Ok(known)
+}
+
+// ---- board image ----
+
+const fn sign(text: &[u8; 8]) -> u64 {
+    u64::from_le_bytes(*text)
+}
+
+const EEPROM: u64 = sign(b"$Eeprom$");
+const MAP: u64 = sign(b"$EeprMap");
+const BOARD: u64 = sign(b"$BrdInfo");
+const PROM_SIG: u64 = sign(b"$PromSig");
+const FPGA: u64 = sign(b"$FPGAnfo");
+const GPIO: u64 = sign(b"$GpioDat");
+const MEMORY: u64 = sign(b"$MemCnfg");
+const MAC: u64 = sign(b"$MacInfo");
+
+/// The structures of the reader's list, from bit 8 on.
+const LISTED: [u64; 9] = [
+    sign(b"$AcpiTbl"), FPGA, GPIO, sign(b"$HdCodec"), sign(b"$Logo$\0\0"), MEMORY, MAC,
+    sign(b"$uCode$\0"), sign(b"$Video$\0"),
+];
+
+#[derive(Clone, Copy)]
+struct Structure<'a> {
+    place: usize,
+    signature: u64,
+    major: u16,
+    minor: u16,
+    /// As many as Length says, the head included.
+    bytes: &'a [u8],
+}
+
+impl Structure<'_> {
+    fn end(&self) -> usize {
+        self.place + self.bytes.len()
+    }
+
+    fn known(&self, kinds: u32) -> bool {
+        let mut listed = LISTED.iter().zip(8..);
+        matches!(self.signature, EEPROM | MAP | BOARD | PROM_SIG)
+            || self.major == 1 && listed.any(|(&s, bit)| s == self.signature && kinds >> bit & 1 == 1)
+    }
+
+    /// Where the Reserved row of its table starts and ends. The fixed part ends there too.
+    fn reserved(&self) -> (usize, usize) {
+        match self.signature {
+            EEPROM | MAC => (0x20, 0x30),
+            MAP => (0x2D, 0x30),
+            BOARD => (0x4D, 0x60),
+            FPGA => (0x13, 0x20),
+            MEMORY | PROM_SIG => (0x12, 0x20),
+            _ => (0x10, 0x20),
+        }
+    }
+}
+
+/// The structure due at a place, unless rule 23 breaks there.
+fn structure_at(area: &[u8], place: usize) -> Option<Structure<'_>> {
+    let rest = area.get(place..)?;
+    let head = rest.first_chunk::<16>()?;
+    let length = u32_at(head, 0x0C) as usize;
+    if head[0] != b'$' || length < 16 {
+        return None;
+    }
+    let signature = u64::from(u32_at(head, 4)) << 32 | u64::from(u32_at(head, 0));
+    let (major, minor) = (u16_at(head, 8), u16_at(head, 0x0A));
+    Some(Structure { place, signature, major, minor, bytes: rest.get(..length)? })
+}
+
+/// The structures of an area that holds rule 23.
+fn structures(area: &[u8]) -> impl Iterator<Item = Structure<'_>> {
+    let mut at = 0;
+    std::iter::from_fn(move || {
+        let structure = structure_at(area, at)?;
+        at = structure.end().next_multiple_of(16);
+        Some(structure)
+    })
+}
+
+/// An accepted board image: its first StructLen bytes, and its `$BrdInfo`.
+struct Board<'a> {
+    area: &'a [u8],
+    count: usize,
+    info: &'a [u8],
+}
+
+fn judge_board(image: &[u8], kinds: u32) -> Judged<Board<'_>> {
+    let area = board_frame(image)?;
+    let (count, last) = board_shape(area)?;
+    let prom_sig = Some(last).filter(|last| last.signature == PROM_SIG);
+    let map = structure_at(area, 0x30).ok_or(refusal(25, area.len()))?;
+    let info = structure_at(area, map.end()).ok_or(refusal(25, area.len()))?;
+    let expected = prom_sig.map_or(area.len(), |prom_sig| prom_sig.place + 0x20);
+    hold(27, 0, check_break(area, expected))?;
+    hold(28, info.place, (info.end() > 4096).then_some(0))?;
+    hold(29, last.place, prom_sig.and_then(|prom_sig| hash_break(prom_sig.bytes)))?;
+    hold(30, map.place, map_break(map.bytes, area.len()))?;
+    hold(31, info.place, info.bytes.get(0x4C).filter(|&&kind| kind > 1).map(|_| 0x4C))?;
+    board_contents(area, kinds)?;
+    Ok(Board { area, count, info: info.bytes })
+}
+
+/// Rules 20 to 22: the first StructLen bytes.
+fn board_frame(image: &[u8]) -> Judged<&[u8]> {
+    let head = image.first_chunk::<0x30>().filter(|_| image.len() <= 65_536);
+    let head = head.ok_or(refusal(20, 0))?;
+    if !head.starts_with(b"$Eeprom$") || u16_at(head, 8) != 1 || u32_at(head, 0x0C) != 0x30 {
+        return Err(refusal(21, 0));
+    }
+    let area = image.get(..u32_at(head, 0x10) as usize);
+    area.filter(|area| area.len() >= 0x30).ok_or(refusal(22, 0x10))
+}
+
+/// Rules 23 to 26, along the heads: the count of structures, and the last one.
+fn board_shape(area: &[u8]) -> Judged<(usize, Structure<'_>)> {
+    let (mut at, mut count, mut least) = (0, 0, Least(Ok(())));
+    loop {
+        let structure = structure_at(area, at).ok_or(refusal(23, at))?;
+        let end = structure.end();
+        least.note(25, at, misplaced(count, structure.signature, end == area.len()).then_some(0));
+        least.note(26, at, misshapen(&structure).then_some(0));
+        count += 1;
+        if end == area.len() {
+            least.note(25, end, (count < 3).then_some(0));
+            return least.0.map(|()| (count, structure));
+        }
+        at = end.next_multiple_of(16);
+        least.note(24, end, area.get(end..at).and_then(nonzero));
+    }
+}
+
+/// Rule 25, of the structure of a number: its signature alone counts.
+fn misplaced(number: usize, signature: u64, last: bool) -> bool {
+    match number {
+        0 => false,
+        1 => signature != MAP,
+        2 => signature != BOARD,
+        _ => matches!(signature, EEPROM | MAP | BOARD) || signature == PROM_SIG && !last,
+    }
+}
+
+/// Rule 26.
+fn misshapen(structure: &Structure) -> bool {
+    let length = structure.bytes.len();
+    let good = match structure.signature {
+        MAP => length >= 0x50 && length % 0x20 == 0x10,
+        BOARD => length == 0x60,
+        PROM_SIG => length >= 0x20,
+        _ => return false,
+    };
+    !good || structure.major != 1
+}
+
+/// Rule 27: the sum is over the expected CrcLength, the stored Crc32 counted as zero.
+fn check_break(area: &[u8], expected: usize) -> Option<usize> {
+    let (head, rest) = area.get(..expected)?.split_first_chunk::<0x30>()?;
+    let mut cleared = *head;
+    cleared[0x14..0x18].fill(0);
+    if !crc32(crc32(!0, &cleared), rest) != u32_at(head, 0x14) {
+        return Some(0x14);
+    }
+    (u32_at(head, 0x18) as usize != expected).then_some(0x18)
+}
+
+/// Rule 29: the signed flag is 8000h, the type is all the other bits.
+fn hash_break(bytes: &[u8]) -> Option<usize> {
+    let hash_type = u16_at(bytes.first_chunk::<0x20>()?, 0x10);
+    let (signed, kind) = (hash_type & 0x8000 != 0, hash_type & 0x7FFF);
+    let sizes = [0, 0x10, 0x14, 0x20, 0x30, 0x40];
+    let good = sizes.get(usize::from(kind)).is_some_and(|&size| match signed {
+        false => bytes.len() == 0x20 + size,
+        true => matches!(kind, 1..=3) && bytes.len() >= 0x20 + size,
+    });
+    (!good).then_some(0x10)
+}
+
+/// Rule 30: the fields and records of the map in the order of their places.
+fn map_break(bytes: &[u8], struct_len: usize) -> Option<usize> {
+    let (head, records) = bytes.split_first_chunk::<0x30>()?;
+    let (records, _) = records.as_chunks::<0x20>();
+    let (block, part) = (u64::from(u32_at(head, 0x20)), u64::from(u32_at(head, 0x26)));
+    let bad_part = part != records.len() as u64 * block || part < struct_len as u64;
+    label_break(head, 0x10)
+        .or((block == 0).then_some(0x20))
+        .or(bad_part.then_some(0x26))
+        .or((head[0x2B] > 1).then_some(0x2B))
+        .or((head[0x2C] > 3).then_some(0x2C))
+        .or_else(|| {
+            let mut records = records.iter().enumerate();
+            records.find_map(|(k, record)| {
+                map_record_break(record, k as u64 * block).map(|i| 0x30 + 0x20 * k + i)
+            })
+        })
+}
+
+fn map_record_break(record: &[u8; 0x20], offset: u64) -> Option<usize> {
+    label_break(record, 0)
+        .or((u32_at(record, 0x10) != 0x20).then_some(0x10))
+        .or((u64::from(u32_at(record, 0x14)) != offset).then_some(0x14))
+        .or((record[0x18] > 0x7F).then_some(0x18))
+}
+
+/// Rules 32 and 33, of known structures. A VerMinor above 0 lifts rule 32 only.
+fn board_contents(area: &[u8], kinds: u32) -> Judged<()> {
+    let mut least = Least(Ok(()));
+    for structure in structures(area).filter(|structure| structure.known(kinds)) {
+        if structure.minor == 0 {
+            least.note(32, structure.place, reserved_break(&structure));
+        }
+        least.note(33, structure.place, data_break(&structure));
+    }
+    least.0
+}
+
+/// Rule 32: a Reserved row that is not wholly within Length is not read.
+fn reserved_break(structure: &Structure) -> Option<usize> {
+    let (from, to) = structure.reserved();
+    let own = nonzero(structure.bytes.get(from..to)?).map(|i| from + i);
+    let records = structure.bytes.get(to..)?;
+    own.or_else(|| match structure.signature {
+        MAP => records_reserved::<0x20>(records, 0x19).map(|i| to + i),
+        GPIO => records_reserved::<0x30>(records, 0x22).map(|i| to + i),
+        _ => None,
+    })
+}
+
+fn records_reserved<const SIZE: usize>(records: &[u8], from: usize) -> Option<usize> {
+    let mut records = records.as_chunks::<SIZE>().0.iter().enumerate();
+    records.find_map(|(k, record)| nonzero(&record[from..]).map(|i| SIZE * k + from + i))
+}
+
+/// Rule 33: a fixed part or a record that is cut short breaks at the structure's start.
+fn data_break(structure: &Structure) -> Option<usize> {
+    let Some((fixed, data)) = structure.bytes.split_at_checked(structure.reserved().1) else {
+        return Some(0);
+    };
+    match (structure.signature, data.as_chunks::<0x30>()) {
+        (FPGA, _) => fixed.get(0x10).filter(|&&data_type| data_type > 4).map(|_| 0x10),
+        (GPIO, (records, [])) => records.iter().enumerate().find_map(|(k, record)| {
+            gpio_record_break(record).map(|i| 0x20 + 0x30 * k + i)
+        }),
+        (GPIO, _) => Some(0),
+        _ => None,
+    }
+}
+
+fn gpio_record_break(record: &[u8; 0x30]) -> Option<usize> {
+    label_break(record, 0)
+        .or((u32_at(record, 0x10) != 0x30).then_some(0x10))
+        .or((!matches!(record[0x20], 1 | 2 | 4)).then_some(0x20))
+        .or((record[0x21] > 4).then_some(0x21))
+}
+
+/// Whether the EEPROM image is chosen, and the chosen image's StructLen.
+fn choose(firmware: &[u8], eeprom: &[u8], kinds: u32) -> Judged<(bool, usize)> {
+    match (judge_board(firmware, kinds), judge_board(eeprom, kinds)) {
+        (Ok(firmware), Ok(eeprom)) if !newer(&eeprom, &firmware) => Ok((false, firmware.area.len())),
+        (Ok(firmware), Err(_)) => Ok((false, firmware.area.len())),
+        (_, Ok(eeprom)) => Ok((true, eeprom.area.len())),
+        (Err(refusal), Err(_)) => Err(refusal),
+    }
+}
+
+/// Whether one board image is of the same board as the other and has the greater Version.
+fn newer(one: &Board, other: &Board) -> bool {
+    // ManuName, BrdName; BoardId, FabId, EcId, BoardType.
+    let same = [0x10..0x30, 0x40..0x4D].map(|rows| one.info.get(rows.clone()) == other.info.get(rows));
+    let version = |board: &Board| board.area.first_chunk::<0x30>().map(|head| u32_at(head, 0x1C));
+    same == [true, true] && version(one) > version(other)
+}
+
+/// Goes from structure to structure and shows each; the count of known ones.
+fn walk_board(image: &[u8], kinds: u32) -> Judged<usize> {
+    let board = judge_board(image, kinds)?;
+    let mut known = 0;
+    for structure in structures(board.area) {
+        black_box((structure.signature, structure.place, structure.bytes.len() - 16));
+        if structure.known(kinds) {
+            known += 1;
+            show_structure(&structure);
+        }
+    }
+    Ok(known)
+}
+
+/// The fields of its table but reserved bytes and Crc32; what follows (records too) by place
+/// and length.
+fn show_structure(structure: &Structure) {
+    let Some((fixed, rest)) = structure.bytes.split_at_checked(structure.reserved().1) else { return };
+    black_box((structure.major, structure.minor, structure.end() - rest.len(), rest.len()));
+    if let (BOARD, Some(b)) = (structure.signature, fixed.first_chunk::<0x60>()) {
+        black_box((&b[0x10..0x20], &b[0x20..0x30], &b[0x30..0x40]));
+        black_box((u32_at(b, 0x40), u32_at(b, 0x44), u32_at(b, 0x48), b[0x4C]));
+    } else if let (MAP, Some(b)) = (structure.signature, fixed.first_chunk::<0x30>()) {
+        black_box((&b[0x10..0x20], u32_at(b, 0x20), u16_at(b, 0x24), u32_at(b, 0x26)));
+        black_box((b[0x2A], b[0x2B], b[0x2C]));
+    } else if let Some(b) = fixed.first_chunk::<0x20>() {
+        match structure.signature {
+            EEPROM => _ = black_box((u32_at(b, 0x10), u32_at(b, 0x18), u32_at(b, 0x1C))),
+            FPGA => _ = black_box((b[0x10], b[0x11], b[0x12])),
+            MEMORY | PROM_SIG => _ = black_box(u16_at(b, 0x10)),
+            MAC => _ = black_box((&b[0x10..0x18], &b[0x18..0x1E], u16_at(b, 0x1E))),
+            _ => {}
+        }
+    }
+}
+
+// ---- the filled list ----
+
+#[repr(C)]
+pub struct Entry {
+    /// The tag, or the eight signature bytes as a little-endian number.
+    kind: u64,
+    place: usize,
+    /// Past the tag and length byte, or past the generic head.
+    length: usize,
+    known: bool,
+}
+
+type Entries = [MaybeUninit<Entry>];
+
+fn fill(entries: &mut Entries, count: usize, items: impl Iterator<Item = Entry>) -> Judged<usize> {
+    let room = entries.get_mut(..count).ok_or(refusal(43, 0))?;
+    for (entry, item) in room.iter_mut().zip(items) {
+        entry.write(item);
+    }
+    Ok(count)
+}
+
+fn list_tiny(image: &[u8], kinds: u32, entries: &mut Entries) -> Judged<usize> {
+    let tiny = judge_tiny(image, kinds)?;
+    fill(entries, tiny.count, tiny.items().map(|item| {
+        let known = tag_known(kinds, item.tag);
+        Entry { kind: item.tag.into(), place: item.place, length: item.data.len(), known }
+    }))
+}
+
+fn list_board(image: &[u8], kinds: u32, entries: &mut Entries) -> Judged<usize> {
+    let board = judge_board(image, kinds)?;
+    fill(entries, board.count, structures(board.area).map(|structure| {
+        let (place, length) = (structure.place, structure.bytes.len() - 16);
+        Entry { kind: structure.signature, place, length, known: structure.known(kinds) }
+    }))
+}
+
+// ---- for C ----
+
+fn answer(judged: Judged<usize>) -> u64 {
+    judged.map_or_else(|refusal| refusal.0, |number| number as u64)
+}
+
+/// What was lent; with length 0 the pointer counts for nothing.
+unsafe fn lent<'a>(bytes: *const u8, length: usize) -> &'a [u8] {
+    if length == 0 { &[] } else { unsafe { std::slice::from_raw_parts(bytes, length) } }
+}
+
+unsafe fn lent_mut<'a, T>(items: *mut T, length: usize) -> &'a mut [T] {
+    if length == 0 { &mut [] } else { unsafe { std::slice::from_raw_parts_mut(items, length) } }
+}
+
+#[no_mangle]
+pub unsafe extern "C" fn independent_tiny_judge(image: *const u8, length: usize, kinds: u32) -> u64 {
+    answer(judge_tiny(unsafe { lent(image, length) }, kinds).map(|tiny| tiny.count))
+}
+
+#[no_mangle]
+pub unsafe extern "C" fn independent_board_judge(image: *const u8, length: usize, kinds: u32) -> u64 {
+    answer(judge_board(unsafe { lent(image, length) }, kinds).map(|board| board.count))
+}
+
+#[no_mangle]
+pub unsafe extern "C" fn independent_board_choice(
+    firmware: *const u8, firmware_length: usize, eeprom: *const u8, eeprom_length: usize, kinds: u32,
+) -> u64 {
+    let firmware = unsafe { lent(firmware, firmware_length) };
+    let eeprom = unsafe { lent(eeprom, eeprom_length) };
+    match choose(firmware, eeprom, kinds) {
+        Ok((which, length)) => u64::from(which) << 40 | length as u64,
+        Err(refusal) => refusal.0,
+    }
+}
+
+#[no_mangle]
+pub unsafe extern "C" fn independent_tiny_name(
+    image: *const u8, length: usize, kinds: u32, buffer: *mut u8, room: usize,
+) -> u64 {
+    let (image, buffer) = unsafe { (lent(image, length), lent_mut(buffer, room)) };
+    answer(name_tiny(image, kinds, buffer))
+}
+
+#[no_mangle]
+pub unsafe extern "C" fn independent_list(
+    format: u32, image: *const u8, length: usize, kinds: u32, entries: *mut Entry, room: usize,
+) -> u64 {
+    let image = unsafe { lent(image, length) };
+    let entries = unsafe { lent_mut(entries.cast::<MaybeUninit<Entry>>(), room) };
+    let list = if format == 0 { list_tiny } else { list_board };
+    answer(list(image, kinds, entries))
+}
+
+#[no_mangle]
+pub unsafe extern "C" fn independent_walk(format: u32, image: *const u8, length: usize, kinds: u32) -> u64 {
+    let walk = if format == 0 { walk_tiny } else { walk_board };
+    answer(walk(unsafe { lent(image, length) }, kinds))
+}
+
+#[cfg(test)]
+mod tests {
+    use super::*;
+
+    const FULL: u32 = 0x1_FFFF;
+    const CASE_4: [u8; 12] = [0x56, 2, 0x0C, 0x10, 0, 1, 4, 0x74, 0x6F, 0x70, 0xB1, 0x57];
+
+    /// Number and place of a refusal; number 0 and the count if accepted.
+    fn split(answer: u64) -> (u64, u64) {
+        (answer >> 32, answer & 0xFFFF_FFFF)
+    }
+
+    fn tiny_says(image: &[u8], kinds: u32) -> (u64, u64) {
+        split(unsafe { independent_tiny_judge(image.as_ptr(), image.len(), kinds) })
+    }
+
+    fn board_says(image: &[u8], kinds: u32) -> (u64, u64) {
+        split(unsafe { independent_board_judge(image.as_ptr(), image.len(), kinds) })
+    }
+
+    fn name_says(image: &[u8], kinds: u32, buffer: &mut [u8]) -> (u64, u64) {
+        let (to, room) = (buffer.as_mut_ptr(), buffer.len());
+        split(unsafe { independent_tiny_name(image.as_ptr(), image.len(), kinds, to, room) })
+    }
+
+    fn choice_says(firmware: &[u8], eeprom: &[u8]) -> u64 {
+        let (f, e) = (firmware.as_ptr(), eeprom.as_ptr());
+        unsafe { independent_board_choice(f, firmware.len(), e, eeprom.len(), FULL) }
+    }
+
+    fn tiny(items: &[u8]) -> Vec<u8> {
+        let mut image = [&[0x56, 2, items.len() as u8 + 4], items].concat();
+        image.push(crc8(&image));
+        image
+    }
+
+    fn put(image: &mut [u8], at: usize, bytes: &[u8]) {
+        image[at..at + bytes.len()].copy_from_slice(bytes);
+    }
+
+    fn structure(signature: &[u8], length: u32) -> Vec<u8> {
+        let mut bytes = vec![0; length as usize];
+        put(&mut bytes, 0, signature);
+        bytes[8] = 1;
+        put(&mut bytes, 12, &length.to_le_bytes());
+        bytes
+    }
+
+    fn seal(mut image: Vec<u8>, covered: usize) -> Vec<u8> {
+        put(&mut image, 0x14, &[0; 4]);
+        let sum = !crc32(!0, &image[..covered]);
+        put(&mut image, 0x14, &sum.to_le_bytes());
+        image
+    }
+
+    /// A good image of version 4, its PartSize 20000h at least, sealed over `covered` bytes or whole.
+    fn board(records: u32, further: &[Vec<u8>], covered: Option<usize>) -> Vec<u8> {
+        let mut map = structure(b"$EeprMap", 0x30 + 0x20 * records);
+        let block = 0x20000u32;
+        map[0x10] = b'$';
+        put(&mut map, 0x20, &block.to_le_bytes());
+        put(&mut map, 0x26, &(records * block).to_le_bytes());
+        for k in 0..records {
+            let at = 0x30 + 0x20 * k as usize;
+            put(&mut map, at, b"sixteen letters!");
+            map[at + 0x10] = 0x20;
+            put(&mut map, at + 0x14, &(k * block).to_le_bytes());
+        }
+        let mut image = [structure(b"$Eeprom$", 0x30), map, structure(b"$BrdInfo", 0x60)].concat();
+        for bytes in further {
+            image.resize(image.len().next_multiple_of(16), 0);
+            image.extend(bytes);
+        }
+        let (length, covered) = (image.len(), covered.unwrap_or(image.len()));
+        put(&mut image, 0x10, &(length as u32).to_le_bytes());
+        put(&mut image, 0x18, &(covered as u32).to_le_bytes());
+        image[0x1C] = 4;
+        seal(image, covered)
+    }
+
+    /// Two records: map at 30h, board at A0h, FPGA at 100h, GPIO at 130h with one record at 150h,
+    /// NIC at 180h, an unknown one at 1B0h, memory at 1D0h, end at 1F0h.
+    fn rich() -> Vec<u8> {
+        let mut gpio = structure(b"$GpioDat", 0x50);
+        put(&mut gpio, 0x20, b"g$");
+        gpio[0x30] = 0x30;
+        gpio[0x40] = 1;
+        let (fpga, mac) = (structure(b"$FPGAnfo", 0x25), structure(b"$MacInfo", 0x30));
+        let (new, memory) = (structure(b"$Newer$$", 0x11), structure(b"$MemCnfg", 0x20));
+        board(2, &[fpga, gpio, mac, new, memory], None)
+    }
+
+    fn signed(hash_type: u16, length: u32) -> Vec<u8> {
+        let mut prom_sig = structure(b"$PromSig", length);
+        put(&mut prom_sig, 0x10, &hash_type.to_le_bytes());
+        board(1, &[prom_sig], Some(0x100))
+    }
+
+    #[test]
+    fn check_values() {
+        assert_eq!(crc8(b"123456789"), 0xF4);
+        assert_eq!(!crc32(!0, b"123456789"), 0xCBF4_3926);
+        let bytes: Vec<u8> = (0..200u32).map(|i| (i * i * 7 + 3) as u8).collect();
+        for length in 0..bytes.len() {
+            let slow = bytes[..length].iter().fold(!0u32, |crc, &byte| {
+                (0..8).fold(crc ^ u32::from(byte), |c, _| c >> 1 ^ (c & 1) * 0xEDB8_8320)
+            });
+            assert_eq!(crc32(!0, &bytes[..length]), slow);
+        }
+    }
+
+    #[test]
+    fn cases_1_to_7_and_14() {
+        assert_eq!(split(unsafe { independent_tiny_judge(std::ptr::null(), 0, FULL) }), (1, 0));
+        assert_eq!(tiny_says(&[0x56, 2, 4, 0x6F], FULL), (0, 0));
+        assert_eq!(tiny_says(&[0x56, 2, 4, 0x6E], FULL), (5, 3));
+        let mut buffer = [7; 6];
+        assert_eq!(name_says(&CASE_4, FULL, &mut buffer), (0, 4));
+        assert_eq!(&buffer, b"top1\x07\x07");
+        assert_eq!(tiny_says(&[0x56, 2, 6, 0x11, 0x0F, 0x8F], FULL), (0, 1));
+        assert_eq!(tiny_says(&[0x56, 3, 4, 0x6F], FULL), (3, 1));
+        assert_eq!(tiny_says(&[0x56, 2, 5, 0x6F], FULL), (4, 2));
+        buffer = [7; 6];
+        for kinds in [FULL & !1, FULL & !2, 0] {
+            assert_eq!(tiny_says(&CASE_4, kinds), (0, 2));
+            assert_eq!(name_says(&CASE_4, kinds, &mut buffer[..0]), (44, 0));
+        }
+        assert_eq!(name_says(&CASE_4, FULL, &mut buffer[..3]), (43, 0));
+        assert_eq!(buffer, [7; 6]);
+    }
+
+    #[test]
+    fn cases_8_and_9() {
+        let identity = |major, minor, first, second, batch: u16| {
+            let [low, high] = batch.to_le_bytes();
+            let item = [0x80, 0, 0, major, minor, first, second, low, high, 0x01, 1, 0xC1];
+            tiny_says(&tiny(&item), FULL)
+        };
+        assert_eq!([major_text(0x63), major_text(0x99), major_text(0)], [*b"99", *b"0Z", *b"00"]);
+        for (major, good) in [(0, true), (0x63, true), (0x80, true), (0x99, true), (0x64, false),
+            (0x7F, false), (0x9A, false), (0xFF, false)] {
+            assert_eq!(identity(major, 99, b' ', b'~', 9999), if good { (0, 2) } else { (11, 6) });
+        }
+        assert_eq!(identity(0, 100, b'a', b'a', 0), (11, 7));
+        assert_eq!(identity(0, 0, 0x1F, b'a', 0), (11, 8));
+        assert_eq!(identity(0, 0, b'a', 0x7F, 10_000), (11, 8));
+        assert_eq!(identity(0, 0, b'a', b'a', 10_000), (11, 10));
+    }
+
+    #[test]
+    fn tiny_rules() {
+        for (image, says) in [(&[0x56, 2, 4][..], (1, 0)), (&[0x55, 3, 4, 0], (2, 0)),
+            (&[0x56, 2, 3, 0], (4, 2))] {
+            assert_eq!(tiny_says(image, FULL), says);
+        }
+        for (items, full, bare) in [
+            (&[0x20, 1][..], (6, 3), (6, 3)),
+            (&[0x11, 0, 0x02], (6, 5), (6, 5)),
+            (&[0x00, 0, 0x02, 1], (6, 5), (6, 5)),
+            (&[0x02, 0, 0x00, 0], (7, 5), (7, 5)),
+            (&[0x01, 0, 0x01, 0, 0x11, 0], (8, 3), (0, 3)),
+            (&[0x01, 0], (0, 1), (0, 1)),
+            (&[0x01, 2, 0x41, 0x41], (9, 6), (0, 1)),
+            (&[0x01, 3, 0xC1, 0xFF, 0x41], (9, 6), (0, 1)),
+            (&[0x10, 0], (10, 4), (0, 1)),
+            (&[0x61, 0, 1, 0x7F, 0, 0x41, 0x41, 0x01, 1, 0xC1], (10, 5), (0, 2)),
+            (&[0x61, 0, 0, 0x7F, 0, 0x41, 0x41, 0x10, 1, 0x01, 1, 0xC1], (10, 11), (0, 3)),
+        ] {
+            assert_eq!((tiny_says(&tiny(items), FULL), tiny_says(&tiny(items), 0)), (full, bare));
+        }
+        assert_eq!(tiny_says(&tiny(&[0x61, 9, 9, 0x7F, 0, 0x41, 0x41]), FULL & !1), (11, 6));
+        assert_eq!(name_says(&tiny(&[0x10, 0, 0x10, 0, 1, 1, 0xC1]), FULL, &mut []), (44, 0));
+        let second = tiny(&[0x10, 1, 1, 4, 0xC1, 0x42, 0x43, 0xC4]);
+        let mut buffer = [0; 3];
+        assert_eq!(name_says(&second, FULL, &mut buffer), (0, 3));
+        assert_eq!(&buffer, b"BCD");
+    }
+
+    #[test]
+    fn case_10() {
+        let broken = |text: &[u8]| {
+            let mut label = [0; 16];
+            put(&mut label, 0, text);
+            label_break(&label, 0)
+        };
+        for good in [&b"top1$"[..], b"$", b"sixteen letters!", b"fifteen letters$"] {
+            assert_eq!(broken(good), None);
+        }
+        assert_eq!((broken(b""), broken(b"top1"), broken(b"a\x7F$")), (Some(0), Some(4), Some(1)));
+        assert_eq!((broken(b"a$\0\0b"), broken(b"$$")), (Some(4), Some(1)));
+    }
+
+    #[test]
+    fn cases_11_to_13() {
+        let with = |at: usize, value: u8, version: u8| {
+            let mut image = board(1, &[], None);
+            image[0x1C] = version;
+            image[at] ^= value;
+            seal(image, 0xE0)
+        };
+        let same = |version| with(0x80 + 0x3F, 0, version);
+        assert_eq!(board_says(&same(4), 0), (0, 3));
+        assert_eq!(choice_says(&same(3), &same(4)), 1 << 40 | 0xE0);
+        assert_eq!(choice_says(&same(4), &same(4)), 0xE0);
+        assert_eq!(choice_says(&with(0xB0, 1, 3), &with(0xBF, 1, 4)), 1 << 40 | 0xE0);
+        for at in [0x90, 0xAF, 0xC0, 0xC7, 0xC8, 0xCB, 0xCC] {
+            assert_eq!(choice_says(&with(at, 1, 3), &same(4)), 0xE0);
+        }
+        assert_eq!(choice_says(&with(0x10, 1, 3), &same(3)), 1 << 40 | 0xE0);
+        assert_eq!(choice_says(&same(3), &with(0x10, 1, 4)), 0xE0);
+        assert_eq!(choice_says(&with(0x11, 0x10, 3), &[]), 22 << 32 | 0x10);
+        assert_eq!(board_says(&board(122, &[], None), FULL), (0, 3));
+        assert_eq!(board_says(&board(123, &[], None), FULL), (28, 0x30 + 0x30 + 123 * 0x20));
+    }
+
+    #[test]
+    fn board_frame_and_shape() {
+        let image = rich();
+        assert_eq!((board_says(&image, FULL), board_says(&image, 0)), ((0, 8), (0, 8)));
+        assert_eq!(board_says(&image[..0x2F], FULL), (20, 0));
+        assert_eq!(board_says(&image[..0x1EF], FULL), (22, 0x10));
+        let mut long = image.clone();
+        long.resize(65_536, 9);
+        assert_eq!(board_says(&long, FULL), (0, 8));
+        long.push(0);
+        assert_eq!(board_says(&long, FULL), (20, 0));
+        for (at, bytes, says) in [
+            (0x07, &b"_"[..], (21, 0)),
+            (0x08, &[2], (21, 0)),
+            (0x0C, &[0x20], (21, 0)),
+            (0x10, &[0x2F, 0], (22, 0x10)),
+            (0x10, &[0x30, 0], (25, 0x30)),
+            (0x10, &[0xA0, 0], (25, 0xA0)),
+            (0x10, &[0xDF, 1], (23, 0x1D0)),
+            (0x1DC, &[0x1F], (23, 0x1F0)),
+            (0x1DC, &[0x21], (23, 0x1D0)),
+            (0x1DC, &[0x0F], (23, 0x1D0)),
+            (0x1DF, &[0xFF], (23, 0x1D0)),
+            (0x1B0, b"S", (23, 0x1B0)),
+            (0x12F, &[1], (24, 0x12F)),
+            (0x30, b"$BrdInfo", (25, 0x30)),
+            (0xA0, b"$EeprMap", (25, 0xA0)),
+            (0x1B0, b"$Eeprom$", (25, 0x1B0)),
+            (0x1B0, b"$PromSig", (25, 0x1B0)),
+            (0x1D0, b"$BrdInfo", (25, 0x1D0)),
+            (0x1D0, b"$PromSig", (0, 8)),
+            (0x38, &[0], (26, 0x30)),
+            (0xA9, &[1], (26, 0xA0)),
+            (0x18, &[0xEF], (27, 0x18)),
+        ] {
+            let mut image = rich();
+            put(&mut image, at, bytes);
+            assert_eq!(board_says(&seal(image, 0x1F0), FULL), says, "{at:x} {bytes:x?}");
+        }
+        let mut image = rich();
+        image[0x14] ^= 1;
+        image[0x18] ^= 1;
+        assert_eq!(board_says(&image, FULL), (27, 0x14));
+    }
+
+    #[test]
+    fn board_fields() {
+        for (at, bytes, says) in [
+            (0x41, &[1][..], (30, 0x41)),
+            (0x52, &[0], (30, 0x50)),
+            (0x56, &[1], (30, 0x56)),
+            (0x5B, &[2], (30, 0x5B)),
+            (0x5C, &[4], (30, 0x5C)),
+            (0x60, b"a$a", (30, 0x62)),
+            (0x70, &[0x1F], (30, 0x70)),
+            (0x94, &[1], (30, 0x94)),
+            (0x98, &[0x80], (30, 0x98)),
+            (0x98, &[0x7F], (0, 8)),
+            (0xEC, &[2], (31, 0xEC)),
+            (0x2F, &[1], (32, 0x2F)),
+            (0x5D, &[1], (32, 0x5D)),
+            (0x99, &[1], (32, 0x99)),
+            (0xED, &[1], (32, 0xED)),
+            (0x113, &[1], (32, 0x113)),
+            (0x120, &[1], (0, 8)),
+            (0x172, &[1], (32, 0x172)),
+            (0x1A0, &[1], (32, 0x1A0)),
+            (0x1E2, &[1], (32, 0x1E2)),
+            (0x110, &[5], (33, 0x110)),
+            (0x150, &[0], (33, 0x150)),
+            (0x160, &[0x20], (33, 0x160)),
+            (0x170, &[3], (33, 0x170)),
+            (0x171, &[5], (33, 0x171)),
+            (0x13A, &[1, 0, 0x50, 0, 0, 0, 9], (0, 8)),
+            (0x13C, &[0x4F], (33, 0x130)),
+        ] {
+            let mut image = rich();
+            put(&mut image, at, bytes);
+            assert_eq!(board_says(&seal(image, 0x1F0), FULL), says, "{at:x} {bytes:x?}");
+        }
+    }
+
+    /// A structure at E0h with every byte past its head FFh, by every listed signature.
+    #[test]
+    fn short_structures() {
+        for (bit, signature) in LISTED.iter().enumerate() {
+            let says = |length: u32, major: u8, minor: u8, kinds: u32| {
+                let mut bytes = structure(&signature.to_le_bytes(), length);
+                bytes[16..].fill(0xFF);
+                (bytes[8], bytes[10]) = (major, minor);
+                board_says(&board(1, &[bytes], None), kinds)
+            };
+            let (fixed, kinds) = if *signature == MAC { (0x30, 1 << 14) } else { (0x20, 256 << bit) };
+            let reserved = match *signature { FPGA => 0x13, MEMORY => 0x12, MAC => 0x20, _ => 0x10 };
+            let full = if *signature == FPGA { (33, 0xF0) } else { (0, 4) };
+            assert_eq!((says(0x10, 1, 0, kinds), says(fixed - 1, 1, 0, kinds)), ((33, 0xE0), (33, 0xE0)));
+            assert_eq!((says(fixed - 1, 1, 1, FULL), says(fixed, 1, 1, FULL)), ((33, 0xE0), full));
+            assert_eq!(says(fixed, 1, 0, kinds), (32, 0xE0 + reserved));
+            for unknown in [says(0x10, 2, 0, FULL), says(fixed, 0, 0, FULL), says(fixed, 1, 0, !kinds)] {
+                assert_eq!(unknown, (0, 4));
+            }
+        }
+        let gpio = |at: usize, length: u32| {
+            let mut bytes = structure(b"$GpioDat", length);
+            bytes[at] = 1;
+            board_says(&board(1, &[bytes], None), FULL)
+        };
+        assert_eq!((gpio(0x4F, 0x7F), gpio(0x72, 0x7F), gpio(0x4F, 0x4F + 1)),
+            ((32, 0xE0 + 0x4F), (33, 0xE0), (32, 0xE0 + 0x4F)));
+    }
+
+    #[test]
+    fn hashes() {
+        for (hash_type, length, good) in [(0, 0x20, true), (0, 0x21, false), (1, 0x30, true),
+            (2, 0x34, true), (3, 0x40, true), (4, 0x50, true), (5, 0x60, true), (5, 0x5F, false),
+            (6, 0x20, false), (0x8000, 0x20, false), (0x8001, 0x30, true), (0x8001, 0x2F, false),
+            (0x8003, 0x99, true), (0x8004, 0x50, false), (0x4001, 0x30, false)] {
+            let says = if good { (0, 4) } else { (29, 0xF0) };
+            assert_eq!(board_says(&signed(hash_type, length), 0), says, "{hash_type:x} {length:x}");
+        }
+        let mut image = signed(0, 0x20);
+        image[0xEC] = 0x1F;
+        assert_eq!(board_says(&image, FULL), (23, 0x100));
+        let mut image = signed(0x8003, 0x99);
+        image[0x100] = 1;
+        assert_eq!(board_says(&image, FULL), (0, 4));
+        image[0xF2] = 1;
+        assert_eq!(board_says(&image, FULL), (27, 0x14));
+        assert_eq!(board_says(&seal(image, 0x100), FULL), (32, 0xF2));
+    }
+
+    fn list_says(format: u32, image: &[u8], kinds: u32, room: usize) -> ((u64, u64), Vec<[u64; 4]>) {
+        let mut entries: Vec<Entry> = Vec::new();
+        entries.resize_with(room, || Entry { kind: 7, place: 7, length: 7, known: true });
+        let to = entries.as_mut_ptr();
+        let says = unsafe { independent_list(format, image.as_ptr(), image.len(), kinds, to, room) };
+        let rows = entries.iter().map(|e| [e.kind, e.place as u64, e.length as u64, e.known.into()]);
+        (split(says), rows.collect())
+    }
+
+    #[test]
+    fn lists() {
+        let left = [7, 7, 7, 1];
+        let tiny_list = list_says(0, &CASE_4, 1, 3);
+        assert_eq!(tiny_list, ((0, 2), vec![[0x10, 3, 1, 0], [1, 5, 4, 1], left]));
+        assert_eq!(list_says(0, &CASE_4, 1, 1), ((43, 0), vec![left]));
+        assert_eq!(list_says(1, &CASE_4, 1, 0), ((20, 0), vec![]));
+        let mut image = rich();
+        put(&mut image, 0x1D8, &[2]);
+        let (says, rows) = list_says(1, &seal(image, 0x1F0), FULL & !(1 << 9), 9);
+        let known: Vec<u64> = rows.iter().map(|row| row[3]).collect();
+        assert_eq!((says, &known[..8]), ((0, 8), &[1, 1, 1, 0, 1, 1, 0, 0][..]));
+        assert_eq!((rows[4], rows[8]), ([GPIO, 0x130, 0x40, 1], left));
+    }
+
+    #[test]
+    fn prefixes() {
+        let (whole, longest) = (rich(), signed(0x8001, 0x35));
+        for length in 0..whole.len() {
+            let says = if length < 0x30 { (20, 0) } else { (22, 0x10) };
+            assert_eq!(board_says(&whole[..length], FULL), says);
+            assert_eq!(board_says(&longest[..length.min(0x114)], 0), says);
+        }
+        for length in 0..CASE_4.len() {
+            let says = if length < 4 { (1, 0) } else { (4, 2) };
+            assert_eq!(tiny_says(&CASE_4[..length], FULL), says);
+        }
+    }
+
+    /// Demand 3 along mutated images: accepted with a list, accepted with any part of it, the same
+    /// entries but for their known marks, and the walk knows as many as the list marks.
+    #[test]
+    fn mutations() {
+        let mut state = 0x9E37_79B9_7F4A_7C15u64;
+        let mut next = |below: u64| {
+            state ^= state << 13;
+            state ^= state >> 7;
+            state ^= state << 17;
+            (state >> 11) % below
+        };
+        let bases = [rich(), signed(0x8001, 0x35), tiny(&CASE_4[3..11]),
+            tiny(&[0x80, 0, 1, 1, 1, 0x41, 0x41, 1, 1, 0x10, 1, 0x02, 1, 5, 0x01, 3, 0xC1, 0x41, 0xC2])];
+        for round in 0..40_000 {
+            let mut image = bases[round % 4].clone();
+            for _ in 0..=next(3) {
+                let at = next(image.len() as u64) as usize;
+                image[at] = if next(2) == 0 { next(256) as u8 } else { image[at] ^ 1 << next(8) };
+            }
+            let format = u32::from(round % 4 < 2);
+            if format == 0 {
+                let end = image.len() - 1;
+                image[end] = crc8(&image[..end]);
+            } else {
+                let covered = if round % 4 == 0 { image.len() } else { 0x100 };
+                image = seal(image, covered);
+            }
+            image.truncate(image.len() - next(20) as usize / 19);
+            let kinds = next(1 << 17) as u32;
+            let (longer, shorter) = (kinds | next(1 << 17) as u32, kinds);
+            let (says, long) = list_says(format, &image, longer, 40);
+            let (short_says, short) = list_says(format, &image, shorter, 40);
+            if says.0 == 0 {
+                assert_eq!(says, short_says);
+                let alike = |(a, b): (&[u64; 4], &[u64; 4])| a[..3] == b[..3] && a[3] >= b[3];
+                assert!(long.iter().zip(&short).all(alike));
+                let known = long[..says.1 as usize].iter().map(|row| row[3]).sum();
+                let (bytes, length) = (image.as_ptr(), image.len());
+                assert_eq!(split(unsafe { independent_walk(format, bytes, length, longer) }), (0, known));
+            } else {
+                assert!(long.iter().all(|row| *row == [7, 7, 7, 1]));
+            }
+        }
+    }
+}
