@@ -2,10 +2,9 @@
 #ifndef IMAGES_H
 #define IMAGES_H
 
-#include <stddef.h>
-#include <stdint.h>
+#include "../tests/reader.h"
 
-enum { TINY = 0, BOARD = 1, LONGEST = 65536, IMAGES = 6 };
+enum { LONGEST = 65536, IMAGES = 6 };
 
 typedef struct {
     const char *name;

@@ -5,24 +5,9 @@
 #include <zlib.h>
 
 #include "../host/chip.h"
+#include "../tests/independent.h"
 #include "images.h"
 #include "timing.h"
-
-typedef struct {
-    uint64_t kind;
-    size_t place;
-    size_t length;
-    bool known;
-} Entry;
-
-uint64_t reader_list(uint32_t format, const uint8_t *image, size_t n, uint32_t kinds, Entry *out, size_t room);
-uint64_t reader_step(uint32_t format, const uint8_t *image, size_t n, uint32_t kinds, size_t number);
-
-uint64_t independent_tiny_judge(const uint8_t *image, size_t n, uint32_t kinds);
-uint64_t independent_board_judge(const uint8_t *image, size_t n, uint32_t kinds);
-uint64_t independent_tiny_name(const uint8_t *image, size_t n, uint32_t kinds, uint8_t *buffer, size_t room);
-uint64_t independent_list(uint32_t format, const uint8_t *image, size_t n, uint32_t kinds, Entry *out, size_t room);
-uint64_t independent_walk(uint32_t format, const uint8_t *image, size_t n, uint32_t kinds);
 
 enum { FULL = CHIP_KINDS_FULL, ENTRIES = LONGEST / 16, NAME_ROOM = CHIP_TINY_LONGEST };
 

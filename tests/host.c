@@ -1,14 +1,14 @@
 /*
- * Holds the functions that are exported to C (host/chip.h, entry.h) against tests/independent.rs, image by image, in one program.
+ * Holds the functions that are exported to C (host/chip.h, reader.h) against tests/independent.rs, image by image, in one program.
  *
  *     host < records
  *
  * A record has, low bytes first: what it is in one byte (0 tiny image, 1 board image, 2 pair of board images), the list of kinds in four, the answer that the
  * judge or the choice must give in eight (all ones: not known), and one image or two, each behind its length in four bytes.
  *
- * An image is lent where a page ends and again where a page begins, with no page beside it that may be touched, and cannot be written. A name buffer or a list
- * lies at one of the two ends too, by turns, with bytes on its other side that must stay as they are. Of every call the answer and all bytes of what was lent
- * must be the same on both sides; a refused call changes none.
+ * An image is lent where a page ends or where a page begins, with no page beside it that may be touched, and cannot be written: to the judges in both ways,
+ * to the other calls by turns. A name buffer or a list lies at one of the two ends too, with bytes on its other side that must stay as they are. Of every call
+ * the answer and all bytes of what was lent must be the same on both sides; a refused call changes none.
  *
  * Writes a line for each call and number: how often it was answered. Exit: 0 if all was as it must be, 1 at the first difference, 3 if it could not work.
  */
@@ -18,13 +18,7 @@
 #include <stdlib.h>
 
 #include "../host/chip.h"
-#include "entry.h"
-
-uint64_t independent_tiny_judge(const uint8_t *image, size_t length, uint32_t kinds);
-uint64_t independent_board_judge(const uint8_t *image, size_t length, uint32_t kinds);
-uint64_t independent_board_choice(const uint8_t *firmware, size_t firmware_length, const uint8_t *eeprom, size_t eeprom_length, uint32_t kinds);
-uint64_t independent_tiny_name(const uint8_t *image, size_t length, uint32_t kinds, uint8_t *buffer, size_t room);
-uint64_t independent_list(uint32_t format, const uint8_t *image, size_t length, uint32_t kinds, Entry *out, size_t room);
+#include "independent.h"
 
 enum {
     PAIR = 2,      /* a record of two board images */
@@ -49,6 +43,13 @@ static unsigned long record; /* counted from 0 */
 static void stop(const char *call, const char *what, uint64_t ours, uint64_t theirs) {
     fprintf(stderr, "host: record %lu: %s: %s: %016" PRIX64 ", and %016" PRIX64 "\n", record, call, what, ours, theirs);
     exit(1);
+}
+
+/* The address sanitizer calls this before it stops the program, for a page that may not be touched too. */
+void __asan_on_error(void);
+
+void __asan_on_error(void) {
+    fprintf(stderr, "host: record %lu: stopped\n", record);
 }
 
 static void same_answer(const char *call, uint64_t ours, uint64_t theirs) {
@@ -82,7 +83,12 @@ static const uint8_t *at_end(const struct lent *lent) {
     return place;
 }
 
-/* A buffer of this many bytes at the end of the pages, or at their start for every second record; and its bytes, with those beside it. */
+/* At one of the two ends, by turns. Each image has two records, one for each end. */
+static const uint8_t *at_either(const struct lent *lent) {
+    return record % 2 ? at_start(lent) : at_end(lent);
+}
+
+/* A buffer of this many bytes at the end of the pages, or at their start, by turns; and the bytes beside it. */
 struct buffer {
     uint8_t *bytes, *whole;
     size_t size;
@@ -90,8 +96,8 @@ struct buffer {
 
 static struct buffer buffer_in(struct pages pages, size_t bytes) {
     struct buffer b = {.size = bytes + BESIDE};
-    b.whole = record % 2 ? pages.start : pages.start + pages.room - b.size;
-    b.bytes = record % 2 ? b.whole : b.whole + BESIDE;
+    b.whole = record / 2 % 2 ? pages.start : pages.start + pages.room - b.size;
+    b.bytes = record / 2 % 2 ? b.whole : b.whole + BESIDE;
     for (size_t i = 0; i < b.size; i++)
         b.whole[i] = (uint8_t)(37 * i + 11 + record);
     return b;
@@ -124,7 +130,7 @@ static uint64_t judge(unsigned call, const struct lent *lent, uint64_t due) {
 /* the name into a buffer of this room, by both */
 static uint64_t name(const struct lent *lent, struct pages pages, size_t room) {
     static uint8_t theirs[CHIP_TINY_LONGEST + SPARE];
-    const uint8_t *image = at_end(lent);
+    const uint8_t *image = at_either(lent);
     struct buffer ours = buffer_in(pages, room);
     memcpy(theirs, ours.bytes, room);
     uint64_t answer = chip_tiny_name(image, lent->length, lent->kinds, ours.bytes, room);
@@ -153,7 +159,7 @@ static bool same_entry(const Entry *a, const Entry *b) {
 /* the list into this much room, by both; the entries of the independent one stay in `theirs` */
 static uint64_t list(unsigned format, const struct lent *lent, struct pages pages, size_t room, Entry *theirs) {
     unsigned call = format == TINY ? TINY_LIST : BOARD_LIST;
-    const uint8_t *image = at_end(lent);
+    const uint8_t *image = at_either(lent);
     struct buffer ours = buffer_in(pages, room * sizeof(Entry));
     Entry *entries = (Entry *)ours.bytes;
     uint64_t answer = reader_list(format, image, lent->length, lent->kinds, entries, room);
@@ -171,7 +177,7 @@ static uint64_t list(unsigned format, const struct lent *lent, struct pages page
 /* Steps along the items, at most STEPS of them; the last item's, the two past it, and one far past it are among them. */
 static void steps(unsigned format, const struct lent *lent, uint64_t judged, const Entry *items) {
     uint32_t last = chip_value(judged), apart = last / STEPS + 1;
-    const uint8_t *image = at_end(lent);
+    const uint8_t *image = at_either(lent);
     for (size_t number = 0; number <= last + 1; number += number + apart < last ? apart : 1) {
         uint64_t due = !chip_accepted(judged) ? judged : number < last ? items[number].place : (uint64_t)NONE_LEFT << 40;
         uint64_t answer = reader_step(format, image, lent->length, lent->kinds, number);
@@ -192,7 +198,7 @@ static void lists_and_steps(unsigned format, const struct lent *lent, struct pag
 }
 
 static void choose(const struct lent *firmware, const struct lent *eeprom, uint64_t due) {
-    const uint8_t *a = at_end(firmware), *b = at_end(eeprom);
+    const uint8_t *a = at_either(firmware), *b = at_either(eeprom);
     uint64_t answer = chip_board_choice(a, firmware->length, b, eeprom->length, firmware->kinds);
     unsigned call = chip_is_eeprom(answer) ? CHOICE_EEPROM : CHOICE_FIRMWARE;
     same_answer(names[call], answer, independent_board_choice(a, firmware->length, b, eeprom->length, firmware->kinds));

@@ -9,6 +9,7 @@ import itertools
 import os
 import random
 import re
+import signal
 import subprocess
 import sys
 import tempfile
@@ -118,6 +119,7 @@ def compare_host(folder, libraries, images, seed):
 def main():
     if sys.argv[1:2] == ["records"]:
         kind, number, seed = sys.argv[2:]
+        signal.signal(signal.SIGPIPE, signal.SIG_DFL)  # ends without a word where tests/host.c has stopped
         for one in records(kind, int(number), int(seed)):
             sys.stdout.buffer.write(one)
         return

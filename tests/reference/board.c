@@ -3,7 +3,6 @@
  *
  *     board list < image         the listing of docs/LISTING.md, full list
  *     board answers < records    every answer, for a run of images with their lists
- *     board items < records      the judge's answer and all items, for the same
  *     board write < requests     the image of each request, or why there is none (board_write.c)
  *     board choice < records     which of two images is chosen, for a run of pairs with their lists (board_write.c)
  *
@@ -554,12 +553,6 @@ static void answer_judge(const struct board *b) {
         printf("accepted %u\n", b->judged.value);
 }
 
-static void all_items(const struct board *b) {
-    answer_judge(b);
-    for (unsigned i = 0; i < b->judged.value; i++)
-        answer_item(b, i);
-}
-
 static void all_answers(const struct board *b) {
     unsigned count = b->judged.value; /* 0 of a refused image */
     answer_judge(b);
@@ -607,10 +600,6 @@ static bool answers_run(const uint8_t *input, size_t length) {
     return records_run(input, length, all_answers);
 }
 
-static bool items_run(const uint8_t *input, size_t length) {
-    return records_run(input, length, all_items);
-}
-
 static bool list_run(const uint8_t *input, size_t length) {
     return lend(input, length, FULL_LIST, list_image);
 }
@@ -620,7 +609,7 @@ int main(int argc, char **argv) {
         const char *name;
         size_t most; /* bytes that are read */
         bool (*run)(const uint8_t *, size_t);
-    } commands[] = {{"list", LONGEST + 1, list_run}, {"answers", INPUT, answers_run}, {"items", INPUT, items_run},
+    } commands[] = {{"list", LONGEST + 1, list_run}, {"answers", INPUT, answers_run},
                     {"write", INPUT + 1, answer_requests}, {"choice", INPUT, answer_choices}};
     static uint8_t input[INPUT + 1];
     for (unsigned i = 0; i < sizeof commands / sizeof *commands; i++) {
@@ -631,6 +620,6 @@ int main(int argc, char **argv) {
             return 3;
         return fflush(stdout) || ferror(stdout) ? 3 : 0;
     }
-    fputs("usage: board list | board answers | board items | board write | board choice, input on standard input\n", stderr);
+    fputs("usage: board list | board answers | board write | board choice, input on standard input\n", stderr);
     return 2;
 }

@@ -1,8 +1,8 @@
 /*
  * An entry of a lent list, and the functions of the crate reader_c that fill a list and walk, as C sees them.
  */
-#ifndef ENTRY_H
-#define ENTRY_H
+#ifndef READER_H
+#define READER_H
 
 #include <stdbool.h>
 #include <stddef.h>
