@@ -54,7 +54,7 @@ enum {
 /*
  * The calls. Each answers one number:
  *
- *     bits 0 to 31     the count or the length, or for a refusal its place, counted in bytes from the image's first
+ *     bits 0 to 31     the count or the length, or for a refusal its place, counted in bytes from the image's first; at most 65,536
  *     bits 32 to 39    the number of the refusal; 0: none
  *     bit 40           chip_board_choice alone: 0 for the firmware image, 1 for the EEPROM image
  *

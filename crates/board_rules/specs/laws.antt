@@ -13,3 +13,4 @@ pub mod Records
 pub mod Structure
 pub mod Fields
 pub mod Smallest
+pub mod Bounds

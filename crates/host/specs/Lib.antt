@@ -1,2 +1,4 @@
--- The definitions that the contracts cite. Assumes nothing.
+-- The definitions that the contracts cite, examples of them, and laws that other crates may cite. Assumes nothing.
 pub mod Numbers
+pub mod Examples
+pub mod laws

@@ -9,3 +9,4 @@ pub mod Resolved
 pub mod Shown
 pub mod Exactly
 pub mod Front
+pub mod Bounds

@@ -6,3 +6,4 @@ pub mod Range
 pub mod Same
 pub mod Front
 pub mod Smallest
+pub mod Bounds

@@ -86,7 +86,7 @@ module _ (s : List ℕ) where
   abbrev pub mapFieldChecks : ℕ → List Check
   mapFieldChecks m = labelled s (m + PartLabel) (mapFieldTests m)
 
-  map-fields-smallest : (m z : ℕ) → badMapField s m ≡ At z → Smallest (m + PartLabel) (m + Speed) (mapFieldChecks m) z
+  pub map-fields-smallest : (m z : ℕ) → badMapField s m ≡ At z → Smallest (m + PartLabel) (m + Speed) (mapFieldChecks m) z
   unfolding badMapField
   map-fields-smallest m =
       labelled-smallest s (m + PartLabel) (mapFieldTests m) (m + Speed) (omega arith) (omega arith, (omega arith, (omega arith, (omega arith, (omega arith, tt)))))
