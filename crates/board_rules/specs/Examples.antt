@@ -1,6 +1,6 @@
 -- The judge's answers by computation: an image of case 13's layout (one record: map at 30h, board at 80h, StructLen E0h), and what one change makes of it.
 -- Further cases are run. Assumes nothing.
-use Prim.Native.Nat.{ℕ, _/_, _%_}
+use Prim.Native.Nat.{ℕ, _+_, _*_, _/_, _%_}
 use mathlib.Core.List.{List, [], _∷_, _++_, map}
 use mathlib.Core.Path.{_≡_, refl}
 use lib.ListN.{replicate}
@@ -17,6 +17,7 @@ use Rattle.board_rules.specs.Rules.{rule20, rule21, rule22, rule23, rule
 use Rattle.chain.specs.Chain.{visit, chain}
 use Rattle.chain.specs.Fill.{tab}
 use Rattle.chain.specs.First.{first}
+use Rattle.chain.specs.declared.Found.the-variants.{At, Nothing}
 use Rattle.crc.specs.Crc32.{crc32, shift, shifts, step32}
 use Rattle.kinds.specs.Kinds.{all, full, bare}
 use Rattle.octets.specs.Bytes.{le16, le32, le64}
@@ -133,6 +134,18 @@ checked =
 checked-hold : map (λ (r : Row). judged full (r .image)) checked ≡ map (λ (r : Row). r .answer) checked
 unfolding judged rule20 rule21 rule22 rule23 rule24 rule25 rule26 rule27 rule28 rule29 rule30 rule31 rule32 rule33 misplaced gapUsed expected outOfOrder promSigAt covered checkOver badMapHead badBoardHead badPromSigHead badHash badHashOf hashSize badMap badMapField badMapRecord badBoardType reservedUsed badInside shapeAt shapeOf listedShape endAt round16 next mapAt boardAt laterAt records visit chain first tab le16 le32 le64 nonzero isText isLabelText textEnd badLabel all crc32 shift shifts step32
 checked-hold = refl
+
+-- ---- rule 28, case 12: the board structure behind a map of n records, of which it reads the heads alone
+abbrev behind : ℕ → List ℕ
+behind n =
+    header 0 0 0
+    ++ head (0x24 ∷ 0x45 ∷ 0x65 ∷ 0x70 ∷ 0x72 ∷ 0x4D ∷ 0x61 ∷ 0x70 ∷ []) (0x30 + 0x20 * n)
+    ++ zeros (0x20 + 0x20 * n)
+    ++ brdInfo 0x60 0
+
+case-12 : map rule28 (behind 122 ∷ behind 123 ∷ []) ≡ Nothing ∷ At 0xFC0 ∷ []
+unfolding rule28 endAt round16 next mapAt boardAt tab le32
+case-12 = refl
 
 -- ---- rules 30 and 31
 abbrev fields : List Row
