@@ -36,8 +36,10 @@ def exported(begun):
 
 
 def independent(folder):
-    """tests/independent.rs, with checks of overflow."""
-    library = os.path.join(folder, "libindependent.a")
-    subprocess.run(["rustc", "--edition", "2021", "-D", "warnings", "-C", "opt-level=3", "-C", "panic=abort", "-C", "overflow-checks=on",
-                    "-C", "debug-assertions=on", "--crate-type", "staticlib", "-o", library, "tests/independent.rs"], check=True)
+    """tests/independent.rs as a library, with checks of overflow, once its own tests have passed."""
+    tests, library = os.path.join(folder, "independent_tests"), os.path.join(folder, "libindependent.a")
+    rustc = ["rustc", "--edition", "2021", "-D", "warnings", "-C", "opt-level=3", "-C", "overflow-checks=on", "-C", "debug-assertions=on"]
+    subprocess.run([*rustc, "--test", "-o", tests, "tests/independent.rs"], check=True)
+    subprocess.run([tests, "--quiet"], check=True, stdout=subprocess.DEVNULL)
+    subprocess.run([*rustc, "-C", "panic=abort", "--crate-type", "staticlib", "-o", library, "tests/independent.rs"], check=True)
     return library
