@@ -4,8 +4,9 @@
  *
  * What holds of every call, and is proved of the library:
  * - it takes every image of every length, ends, reads nothing but the images that it is lent, and writes nothing but the front of the name buffer;
- * - a refused call changes no byte of the name buffer;
- * - it keeps nothing between calls, and allocates nothing.
+ * - a refused call changes no byte of the name buffer.
+ *
+ * The library keeps nothing between calls and has no heap, so calls from several threads do not meet.
  *
  * What the caller owes: a pointer with a length stands for that many bytes that can be read (the name buffer: and written); with a length of 0 the pointer is
  * not followed. The name buffer does not overlap the image.
@@ -23,7 +24,8 @@ extern "C" {
 
 /*
  * The list of the kinds that a reader knows: a bit for each tag of tiny images and for each structure of board images. Any set of them is a list; bits 17 to
- * 31 count for nothing. An item of a kind that is not on the list is passed over by its length, and nothing inside it is judged.
+ * 31 count for nothing. An item of a kind that is not on the list, or a listed structure of another VerMajor than 1, is passed over by its length, and nothing
+ * inside it is judged.
  */
 #define CHIP_KIND_01 UINT32_C(0x00001)      /* string pool */
 #define CHIP_KIND_10 UINT32_C(0x00002)      /* serial number */

@@ -59,12 +59,14 @@ static void name_is(const char *what, uint32_t kinds, size_t room, uint64_t due,
 
 static void tiny_cases(void) {
     is("1", chip_tiny_judge(NULL, 0, FULL), REFUSED(1, 0));
+    is("1", chip_tiny_name(NULL, 0, FULL, NULL, 0), REFUSED(1, 0));
     is("2", judge("\x56\x02\x04\x6F", 4), ACCEPTED(0));
     is("3", judge("\x56\x02\x04\x6E", 4), REFUSED(5, 3));
     is("4", chip_tiny_judge(case_4, sizeof case_4, FULL), ACCEPTED(2));
     name_is("4", FULL, 8, ACCEPTED(4), "top1....");
     name_is("4", FULL, 4, ACCEPTED(4), "top1....");
     name_is("4", FULL, 3, REFUSED(43, 0), "........");
+    is("4", chip_tiny_name(case_4, sizeof case_4, FULL, NULL, 0), REFUSED(43, 0));
     is("5", judge("\x56\x02\x06\x11\x0F\x8F", 6), ACCEPTED(1));
     is("6", judge("\x56\x03\x04\x6F", 4), REFUSED(3, 1));
     is("7", judge("\x56\x02\x05\x6F", 4), REFUSED(4, 2));
