@@ -1,6 +1,5 @@
 -- `judged_number` meets its contract: by what is answered. Assumes nothing.
 use mathlib.Core.Path.{sym, ap, _∙_}
-use Prim.Native.Nat.{ℕ}
 use Rattle.verdict.specs.Said.{judgedSaid}
 use Rattle.verdict.specs.declared.Judged.{Judged}
 use Rattle.host.specs.Numbers.{number}
