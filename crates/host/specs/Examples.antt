@@ -16,6 +16,7 @@ use Rattle.octets.specs.Label.{isText}
 use Rattle.tiny.specs.Answers.{nameOf}
 use Rattle.tiny.specs.Cases.{case4}
 use Rattle.tiny.specs.Items.{itemAt}
+use Rattle.tiny.specs.Values.{nameSaid}
 use Rattle.tiny_layout.specs.Layout.{headSize, dataLength, next}
 use Rattle.tiny_layout.specs.Pool.{pool}
 use Rattle.tiny_layout.specs.Strings.{split, texts, stringEnd, reference}
@@ -59,7 +60,7 @@ taken-out = refl
 
 -- case 4: the name into a buffer of so many bytes, each AAh before
 abbrev named : ℕ → ℕ × List ℕ
-named room = numbered (nameOf full case4 (replicate room 0xAA))
+named room = numbered nameSaid (nameOf full case4 (replicate room 0xAA))
 
 -- room for "top1": its length
 name-fits : named 4 ≡ (0x000000004, 0x74 ∷ 0x6F ∷ 0x70 ∷ 0x31 ∷ [])

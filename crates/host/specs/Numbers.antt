@@ -2,11 +2,8 @@
 -- length, or for a refusal its place. Assumes nothing.
 use Prim.Native.Nat.{ℕ, _+_, _*_, _/_, _%_}
 use mathlib.Core.Bool.{cond}
-use mathlib.Core.List.{List}
 use lib.Dec.{eqb}
 use Rattle.choice.specs.Choice.{Chosen}
-use Rattle.tiny.specs.Values.{nameSaid}
-use Rattle.tiny.specs.declared.NameAnswer.{NameAnswer}
 use Rattle.verdict.specs.Said.{Said, says, refused}
 
 -- a count or a length; or a refusal
@@ -19,9 +16,9 @@ abbrev pub chosenNumber : Said Chosen → ℕ
 chosenNumber (says c) = c .which * 0x10000000000 + number (says (c .length))
 chosenNumber (refused n p) = number (refused n p)
 
--- what is answered for the name, and what the lent buffer then holds
-abbrev pub numbered : NameAnswer × List ℕ → ℕ × List ℕ
-numbered x = (number (nameSaid (x .0)), x .1)
+-- an answer as a number, by what it says, and what the lent buffer then holds
+abbrev pub numbered : {A B : Type 0} → (A → Said ℕ) → A × B → ℕ × B
+numbered said x = (number (said (x .0)), x .1)
 
 -- what C takes out of a number (host/chip.h: chip_refusal; chip_value and chip_place; chip_is_eeprom)
 abbrev pub refusalBits : ℕ → ℕ

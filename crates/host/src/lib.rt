@@ -92,7 +92,7 @@ pub extern "C" fn chip_board_choice(firmware: &[u8], eeprom: &[u8], kinds: u32) 
 // The file name of a tiny image, to the front of a lent buffer: its length, or the refusal; a refused call changes no byte.
 #[no_mangle]
 pub extern "C" fn chip_tiny_name(image: &[u8], kinds: u32, buffer: &mut [u8]) -> u64
-    ensures { λ r. ⌜ (r, now (buffer .exit)) ≡ numbered (nameOf (fromBits kinds) (now (image .entry)) (now (buffer .entry))) ⌝ }
+    ensures { λ r. ⌜ (r, now (buffer .exit)) ≡ numbered nameSaid (nameOf (fromBits kinds) (now (image .entry)) (now (buffer .entry))) ⌝ }
 {
     name_number(name(image, Kinds::from_bits(kinds), buffer))
 }

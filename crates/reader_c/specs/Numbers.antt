@@ -1,29 +1,17 @@
--- What C passes and gets as numbers: the format, the answer for the list, and what a step shows. Assumes nothing.
+-- What C passes and gets as numbers beside those of host: the format, and what a step shows. Assumes nothing.
 use Prim.Native.Nat.{ℕ}
 use mathlib.Core.Bool.{cond}
-use mathlib.Core.List.{List}
 use lib.Dec.{eqb}
 use Rattle.host.specs.Numbers.{number}
-use Rattle.reader.specs.Values.{listSaid}
-use Rattle.reader.specs.declared.Entry.{Entry}
 use Rattle.reader.specs.declared.Format.{Format}
 use Rattle.reader.specs.declared.Format.the-variants.{Tiny, Board}
 use Rattle.reader.specs.declared.Item.{Item}
-use Rattle.reader.specs.declared.ListAnswer.{ListAnswer}
 use Rattle.reader.specs.declared.StepAnswer.{StepAnswer}
 use Rattle.verdict.specs.Said.{says, refused}
 
 -- 0 for tiny images, any other number for board images
 abbrev pub formatOf : ℕ → Format
 formatOf n = cond (eqb n 0) Tiny Board
-
--- the answer for the list: the count, or the refusal
-abbrev pub listNumber : ListAnswer → ℕ
-listNumber a = number (listSaid a)
-
--- the answer as a number, and what the lent list then holds
-abbrev pub numbered : ListAnswer × List Entry → ℕ × List Entry
-numbered x = (listNumber (x .0), x .1)
 
 -- what a step shows: the item's place; bit 40 where none is left, bit 41 where no step was made; or the refusal
 abbrev pub itemPlace : Item → ℕ

@@ -12,10 +12,12 @@ use reader::StepAnswer;
 use reader::list;
 use reader::step_numbered;
 ghost use mathlib.Core.Path.{_≡_};
+ghost use Rattle.host.specs.Numbers.{number, numbered};
 ghost use Rattle.kinds.specs.Kinds.{fromBits};
 ghost use Rattle.reader.specs.Answers.{listOf};
+ghost use Rattle.reader.specs.Values.{listSaid};
 ghost use Rattle.reader.specs.Walk.{stepNumbered};
-ghost use Rattle.reader_c.specs.Numbers.{formatOf, listNumber, numbered, itemPlace, stepNumber};
+ghost use Rattle.reader_c.specs.Numbers.{formatOf, itemPlace, stepNumber};
 
 // The format of a number: 0 for tiny images, any other for board images.
 fn format_of(number: u32) -> Format
@@ -29,7 +31,7 @@ fn format_of(number: u32) -> Format
 
 // The answer for the list as one number: the count, or the refusal.
 fn list_number(answer: ListAnswer) -> u64
-    ensures { λ r. ⌜ r ≡ listNumber answer ⌝ }
+    ensures { λ r. ⌜ r ≡ number (listSaid answer) ⌝ }
 {
     match answer {
         ListAnswer::Filled(count) => value_number(count),
@@ -62,7 +64,7 @@ fn step_number(answer: StepAnswer) -> u64
 // The list by a reader with the list of these bits, into the lent entries: what is answered, as one number.
 #[no_mangle]
 pub extern "C" fn reader_list(format: u32, image: &[u8], kinds: u32, out: &mut [Entry]) -> u64
-    ensures { λ r. ⌜ (r, now (out .exit)) ≡ numbered (listOf (formatOf format) (fromBits kinds) (now (image .entry)) (now (out .entry))) ⌝ }
+    ensures { λ r. ⌜ (r, now (out .exit)) ≡ numbered listSaid (listOf (formatOf format) (fromBits kinds) (now (image .entry)) (now (out .entry))) ⌝ }
 {
     let answer = list(format_of(format), image, Kinds::from_bits(kinds), out);
     list_number(answer)

@@ -2,6 +2,7 @@
 use mathlib.Core.Path.{ap, _∙_}
 use Prim.Native.Nat.{ℕ}
 use Rattle.host.specs.Numbers.{numbered}
+use Rattle.tiny.specs.Values.{nameSaid}
 use borrow.Author.Needs.{needs}
 use Rattle.host.proofs.chip_tiny_name.Statement.{statement}
 use Rattle.host.proofs.chip_tiny_name.Tie as tie
@@ -21,7 +22,7 @@ same-length c = search needs
 returns : tie.Need-returns
 returns c =
     ap (λ (n : ℕ). (n, c .before .before .before .name .last .1 .1 .0)) (c .name-number .ensures)
-    ∙ ap numbered (rw (c .before .before .before .before .before .from-bits .ensures) at (c .before .before .before .name .ensures))
+    ∙ ap (numbered nameSaid) (rw (c .before .before .before .before .before .from-bits .ensures) at (c .before .before .before .name .ensures))
 
 pub chip-tiny-name-spec : {M : Type 1} → statement M
 chip-tiny-name-spec =

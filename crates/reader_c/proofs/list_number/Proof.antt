@@ -3,7 +3,9 @@ use borrow.Author.Needs.{needs}
 use Rattle.reader_c.proofs.list_number.Statement.{statement}
 use Rattle.reader_c.proofs.list_number.Tie as tie
 use mathlib.Core.Path.{sym, ap, _∙_}
-use Rattle.reader_c.specs.Numbers.{listNumber}
+use Rattle.host.specs.Numbers.{number}
+use Rattle.reader.specs.Values.{listSaid}
+use Rattle.reader.specs.declared.ListAnswer.{ListAnswer}
 
 enum-known-answer : tie.Need-enum-known-answer
 enum-known-answer c = search needs
@@ -18,10 +20,10 @@ refusal-number-requires : tie.Need-refusal-number-requires
 refusal-number-requires c κs = search needs
 
 returns : tie.Need-returns
-returns c = c .value-number .ensures ∙ sym (ap listNumber (c .before .before .answer .given .1))
+returns c = c .value-number .ensures ∙ sym (ap (λ (a : ListAnswer). number (listSaid a)) (c .before .before .answer .given .1))
 
 returns-2 : tie.Need-returns-2
-returns-2 c = c .refusal-number .ensures ∙ sym (ap listNumber (c .before .before .answer2 .given .1))
+returns-2 c = c .refusal-number .ensures ∙ sym (ap (λ (a : ListAnswer). number (listSaid a)) (c .before .before .answer2 .given .1))
 
 pub list-number-spec : {M : Type 1} → statement M
 list-number-spec =

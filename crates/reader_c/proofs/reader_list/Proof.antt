@@ -66,7 +66,9 @@ use Rattle.reader_c.proofs.reader_list as f
 use Rattle.reader_c.proofs.reader_list.Code as code
 use Rattle.reader_c.proofs.reader_list.Key.{name as #reader-list}
 use Rattle.reader_c.proofs.reader_list.Statement as stated
-use Rattle.reader_c.specs.Numbers.{formatOf, listNumber, numbered}
+use Rattle.host.specs.Numbers.{number, numbered}
+use Rattle.reader.specs.Values.{listSaid}
+use Rattle.reader_c.specs.Numbers.{formatOf}
 
 -- the element's type
 abbrev R : RattleType
@@ -180,11 +182,11 @@ module _ {M : Type 1} (𝓤 : URA M) (H : Heap 𝓤) (A : Atoms 𝓤) (W : Given
     goes-number : ent 𝓤 (emp 𝓤) (Number 𝓤 H A mem run .pre to-number)
     goes-number = alone N.the-row r u (EL.makes N.the-type N′.the-plain 𝓤 H A r _ is)
 
-    number-said : (j : ℕ) → ent 𝓤 (ensured 𝓤 H A list-number.ended (list-number.clauses 𝓤 H A mem run) tt (r, tt) tt j) (fact 𝓤 (j ≡ listNumber r))
-    number-said j = exE 𝓤 _ (λ ws. snd∗ 𝓤 (sem 𝓤 H A (lasts list-number.ended tt (r, tt) ws)) (fact 𝓤 (j ≡ listNumber r)))
+    number-said : (j : ℕ) → ent 𝓤 (ensured 𝓤 H A list-number.ended (list-number.clauses 𝓤 H A mem run) tt (r, tt) tt j) (fact 𝓤 (j ≡ number (listSaid r)))
+    number-said j = exE 𝓤 _ (λ ws. snd∗ 𝓤 (sem 𝓤 H A (lasts list-number.ended tt (r, tt) ws)) (fact 𝓤 (j ≡ number (listSaid r))))
 
   -- ---- the exit: of the lent list only its last entries zs are known
-  exits : (j : ℕ) (u : Val) → Is u64 j (u ∷ []) → (zs : List Entry) → length zs ≡ length ys → (j, zs) ≡ numbered (listOf (formatOf m) (fromBits n) (now s) ys)
+  exits : (j : ℕ) (u : Val) → Is u64 j (u ∷ []) → (zs : List Entry) → length zs ≡ length ys → (j, zs) ≡ numbered listSaid (listOf (formatOf m) (fromBits n) (now s) ys)
       → ent 𝓤 (⋆ 𝓤 H A (Toks ∷ ‵ (finally R γ zs) ∷ ‵ Own ∷ [])) (Post u)
   exits j u is zs len e =
       qed W (Toks ∷ ‵ (finally R γ zs) ∷ ‵ Own ∷ []) ∵
@@ -254,7 +256,7 @@ module _ {M : Type 1} (𝓤 : URA M) (H : Heap 𝓤) (A : Atoms 𝓤) (W : Given
         calls-at ! fm (Number 𝓤 H A mem run) (known .numbers) (to-number r u is) (and-then ! (load ! (from ! (stop !)) (look ! 12 refl)) (no-more !)) (λ u′.
         use1 W (later (some (λ (j : ℕ). (‵ ftrue ⊛ ‵ (u64 .own j (u′ ∷ [])))
         ⊛ raw (ensured 𝓤 H A list-number.ended (list-number.clauses 𝓤 H A mem run) tt (r, tt) tt j)))) (id⊢ 𝓤 _) $ await ! tt $ pick ! (λ j.
-        split ! $ move ! (1 ∷ []) $ use1 W (raw (fact 𝓤 (j ≡ listNumber r))) (number-said r u is j) $ heard ! (j ≡ listNumber r) (λ e-j. split ! $ drop ! $
+        split ! $ move ! (1 ∷ []) $ use1 W (raw (fact 𝓤 (j ≡ number (listSaid r)))) (number-said r u is j) $ heard ! (j ≡ number (listSaid r)) (λ e-j. split ! $ drop ! $
         facts ! u64 (Is u64) (shows 𝓤 H A u64) j (u′ ∷ []) (λ is-j.
         land ! (from ! (stop !)) (init ! 21 refl (uint-lawful 𝓤 H A W w64 .typed j _ is-j .0)) $
         returns ! (look ! 21 refl) $ forget ! 3 refl $ forget ! 5 refl $ forget ! 7 refl $ forget ! 9 refl $ forget ! 11 refl $ forget ! 13 refl $
@@ -264,7 +266,7 @@ module _ {M : Type 1} (𝓤 : URA M) (H : Heap 𝓤) (A : Atoms 𝓤) (W : Given
         move ! (5 ∷ 6 ∷ []) $ free1 ! $ move ! (3 ∷ 4 ∷ []) $ free1 ! $ free0 ! $
         by ! (exits j u′ is-j (zs .1 .1 .1 .0) len
         (ap (λ (i : ℕ). (i, zs .1 .1 .1 .0)) e-j
-        ∙ (ap numbered e ∙ ap₂ (λ (g : Format) (c : Kinds). numbered (listOf g c (now s) ys)) e-f e-k)))))))))))))))))))))))))))))))
+        ∙ (ap (numbered listSaid) e ∙ ap₂ (λ (g : Format) (c : Kinds). numbered listSaid (listOf g c (now s) ys)) e-f e-k)))))))))))))))))))))))))))))))
 
 module _ {M : Type 1} (𝓤 : URA M) (H : Heap 𝓤) (A : Atoms 𝓤) (W : Given 𝓤 H A) (mem : Memory → SProp 𝓤) (run : Routine → Fun 𝓤) (𝓣 : Tables 𝓤 H)
     (known : Known 𝓤 H A mem run 𝓣) where
