@@ -7,6 +7,7 @@ use mathlib.Core.List.{List}
 use lib.Dec.{ltb}
 use Rattle.board_layout.specs.Places.{VerMajor, VerMinor, Length, headSize, StructLen, MapData, mapRecordSize, GpioData, gpioRecordSize}
 use Rattle.board_layout.specs.Shapes.{shapeOf}
+use Rattle.board_layout.specs.declared.Head.{Head}
 use Rattle.board_layout.specs.declared.Records.{Records}
 use Rattle.board_layout.specs.declared.Records.the-variants.{Map, Gpio}
 use Rattle.board_layout.specs.declared.Shape.{Shape}
@@ -25,6 +26,9 @@ minorAt s p = le16 s (p + VerMinor)
 
 abbrev pub lengthAt : List ℕ → ℕ → ℕ
 lengthAt s p = le32 s (p + Length)
+
+abbrev pub headAt : List ℕ → ℕ → Head
+headAt s p = record { signature = signatureAt s p; major = majorAt s p; minor = minorAt s p; length = lengthAt s p }
 
 -- its table
 unfoldable pub shapeAt : List ℕ → ℕ → Shape

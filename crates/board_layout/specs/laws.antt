@@ -1,6 +1,7 @@
 -- What is proved of the definitions. Assumes nothing.
 
 pub mod Layout
+pub mod Head
 pub mod Shapes
 pub mod Near
 pub mod Records

@@ -19,10 +19,10 @@ use octets::le16_at;
 use octets::le32_at;
 use octets::le64_at;
 ghost use mathlib.Core.Path.{_≡_};
-ghost use Prim.Native.Nat.{_≤_, _<_};
+ghost use Prim.Native.Nat.{_+_, _≤_, _<_};
 ghost use lib.ListN.{length};
 ghost use Rattle.chain.specs.Nth.{nth};
-ghost use Rattle.board_layout.specs.Layout.{majorAt, minorAt, lengthAt, shapeAt, structLen, endAt, covers, next, structures, mapAt, boardAt, laterAt, dataOffset, recordSize, records};
+ghost use Rattle.board_layout.specs.Layout.{headAt, majorAt, minorAt, lengthAt, shapeAt, structLen, endAt, covers, round16, next, structures, mapAt, boardAt, laterAt, dataOffset, recordSize, records};
 ghost use Rattle.board_layout.specs.Shapes.{listedShape, shapeOf, knows};
 
 // Which table of the layout paper a structure has: its signature's, of the listed ones with VerMajor 1 only. Other: none.
@@ -41,6 +41,14 @@ pub enum Shape {
     UCode,
     Video,
     Other,
+}
+
+// The generic head of a structure.
+pub struct Head {
+    pub signature: u64,
+    pub major: u16,
+    pub minor: u16,
+    pub length: u32,
 }
 
 // The records of a map, or of GPIO data.
@@ -128,6 +136,20 @@ pub fn length_at(image: &[u8], at: u32) -> u32
     le32_at(image, at as usize + 0x0C)
 }
 
+// The generic head of the structure at a place, in two loads: the second has VerMajor, VerMinor and Length.
+pub fn head_at(image: &[u8], at: u32) -> Head
+    ensures { λ r. ⌜ r ≡ headAt (now (image .entry)) at ⌝ }
+{
+    let signature = le64_at(image, at as usize);
+    let rest = le64_at(image, at as usize + 0x08);
+    Head {
+        signature,
+        major: (rest % 65536) as u16,
+        minor: (rest / 65536 % 65536) as u16,
+        length: (rest / 4294967296) as u32,
+    }
+}
+
 // The table of the structure at a place.
 pub fn shape_at(image: &[u8], at: u32) -> Shape
     ensures { λ r. ⌜ r ≡ shapeAt (now (image .entry)) at ⌝ }
@@ -159,12 +181,27 @@ fn walked(length: u32) -> u32
     length
 }
 
+// Where the structure after one of this Length starts.
+fn past(at: usize, length: u32) -> usize
+    requires { ⌜ at ≤ 0x4_0000_0000 ⌝ }
+    ensures { λ r. ⌜ r ≡ round16 (at + covers length) ⌝ }
+{
+    (at + walked(length) as usize + 15) / 16 * 16
+}
+
+// The same, for a place in an image.
+pub fn next_after(at: u32, length: u32) -> usize
+    ensures { λ r. ⌜ r ≡ round16 (at + covers length) ⌝ }
+{
+    past(at as usize, length)
+}
+
 // Where the structure after the one at a place starts.
 fn next_from(image: &[u8], at: usize) -> usize
     requires { ⌜ at ≤ 0x4_0000_0000 ⌝ }
     ensures { λ r. ⌜ r ≡ next (now (image .entry)) at ⌝ }
 {
-    (at + walked(le32_at(image, at + 0x0C)) as usize + 15) / 16 * 16
+    past(at, le32_at(image, at + 0x0C))
 }
 
 // The same, of any place in an image.

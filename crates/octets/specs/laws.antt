@@ -1,6 +1,7 @@
 -- What is proved of the definitions. Assumes nothing.
 
 pub mod Bytes
+pub mod Parts
 pub mod Spelled
 pub mod Runs
 pub mod Label
