@@ -232,20 +232,6 @@ pub fn later_place(image: &[u8]) -> usize
     next_from(image, board_place(image))
 }
 
-// How many structures there are.
-pub fn structure_count(image: &[u8]) -> usize
-    ensures { λ r. ⌜ r ≡ length (structures (now (image .entry))) ⌝ }
-{
-    let end = struct_len(image) as usize;
-    let mut at = 0;
-    let mut n = 0;
-    while at < end {
-        n += 1;
-        at = next_place(image, at as u32);
-    }
-    n
-}
-
 // The place of the structure of a number.
 pub fn structure_place(image: &[u8], number: usize) -> Found
     ensures { λ r. ⌜ r ≡ nth (structures (now (image .entry))) number ⌝ }

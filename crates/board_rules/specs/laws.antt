@@ -1,5 +1,6 @@
 -- What is proved of the definitions. Assumes nothing.
 
+pub mod Findings
 pub mod Order
 pub mod Front
 pub mod Walk

@@ -7,12 +7,10 @@ use board_fields::bad_map_head;
 use board_fields::bad_prom_sig_head;
 use board_layout::board_place;
 use board_layout::end_at;
-use board_layout::later_place;
 use board_layout::length_at;
 use board_layout::major_at;
 use board_layout::map_place;
 use board_layout::struct_len;
-use board_layout::structure_count;
 use chain::Found;
 use kinds::BRD_INFO;
 use kinds::EEPR_MAP;
@@ -25,16 +23,19 @@ use verdict::refused;
 ghost use mathlib.Core.Path.{_≡_};
 ghost use lib.ListN.{length, drop};
 ghost use Rattle.board_layout.specs.Layout.{structures, mapAt, boardAt};
+ghost use Rattle.board_rules.specs.Findings.{laterOrder, Finds};
 ghost use Rattle.board_rules.specs.Judged.{rules, judged};
 ghost use Rattle.board_rules.specs.Rules.{rule21, rule25, rule26, rule27, rule28, rule29, expected, promSigAt, covered, checkOver};
 ghost use Rattle.chain.specs.declared.Found.{Found};
 ghost use Rattle.verdict.specs.Verdict.{answer};
 
+mod known;
 mod walk;
 
-use walk::KnownRule;
-use walk::Test;
-use walk::first_from;
+use known::walk_known;
+use walk::Findings;
+pub use walk::prom_sig;
+use walk::walk_all;
 
 // Rule 21: the header's signature, VerMajor and Length.
 fn bad_header(image: &[u8]) -> Found
@@ -64,8 +65,9 @@ fn unexpected(image: &[u8], signature: u64, at: usize) -> Found
     Found::At(end)
 }
 
-// Rule 25: the second structure, the third, and those after it.
-fn bad_order(image: &[u8], kinds: Kinds) -> Found
+// Rule 25: the second structure, the third, and what was found of those after it.
+fn bad_order(image: &[u8], order: Found) -> Found
+    requires { ⌜ order ≡ laterOrder (now image) ⌝ }
     ensures { λ r. ⌜ r ≡ rule25 (now (image .entry)) ⌝ }
 {
     let second = unexpected(image, EEPR_MAP, map_place(image));
@@ -76,7 +78,7 @@ fn bad_order(image: &[u8], kinds: Kinds) -> Found
     if let Found::At(_) = third {
         return third;
     }
-    first_from(Test::OutOfOrder, image, kinds, later_place(image))
+    order
 }
 
 // Where the map starts, once it is there.
@@ -95,16 +97,10 @@ fn board_at(image: &[u8]) -> u32
     board_place(image) as u32
 }
 
-// Where the signature structure starts, if there is one. (No list counts for that.)
-pub fn prom_sig(image: &[u8]) -> Found
-    ensures { λ r. ⌜ r ≡ promSigAt (now (image .entry)) ⌝ }
-{
-    first_from(Test::PromSig, image, Kinds::BARE, 0)
-}
-
 // Rule 26: the heads of the map, the board structure and the signature structure.
-fn bad_heads(image: &[u8]) -> Found
+fn bad_heads(image: &[u8], signature: Found) -> Found
     requires { ⌜ rule25 (now image) ≡ Found.Nothing ⌝ }
+    requires { ⌜ signature ≡ promSigAt (now image) ⌝ }
     ensures { λ r. ⌜ r ≡ rule26 (now (image .entry)) ⌝ }
 {
     let map = bad_map_head(image, map_at(image));
@@ -115,20 +111,28 @@ fn bad_heads(image: &[u8]) -> Found
     if let Found::At(_) = board {
         return board;
     }
-    let Found::At(p) = prom_sig(image) else {
+    let Found::At(p) = signature else {
         return Found::Nothing;
     };
     bad_prom_sig_head(image, p as u32)
+}
+
+// The expected CrcLength, by where the signature structure starts.
+fn covered_by(image: &[u8], signature: Found) -> usize
+    requires { ⌜ signature ≡ promSigAt (now image) ⌝ }
+    ensures { λ r. ⌜ r ≡ covered (now (image .entry)) ⌝ }
+{
+    let Found::At(p) = signature else {
+        return struct_len(image) as usize;
+    };
+    p + 0x20
 }
 
 // The expected CrcLength.
 pub fn covered_length(image: &[u8]) -> usize
     ensures { λ r. ⌜ r ≡ covered (now (image .entry)) ⌝ }
 {
-    let Found::At(p) = prom_sig(image) else {
-        return struct_len(image) as usize;
-    };
-    p + 0x20
+    covered_by(image, prom_sig(image))
 }
 
 // The expected Crc32 over the first n bytes.
@@ -142,10 +146,11 @@ pub fn check_over(image: &[u8], n: usize) -> u32
 }
 
 // Rule 27: Crc32, then CrcLength.
-fn bad_check(image: &[u8]) -> Found
+fn bad_check(image: &[u8], signature: Found) -> Found
+    requires { ⌜ signature ≡ promSigAt (now image) ⌝ }
     ensures { λ r. ⌜ r ≡ rule27 (now (image .entry)) ⌝ }
 {
-    let n = covered_length(image);
+    let n = covered_by(image, signature);
     if le32_at(image, 0x14) == check_over(image, n) {
         if le32_at(image, 0x18) as usize == n {
             return Found::Nothing;
@@ -168,34 +173,41 @@ fn ends_late(image: &[u8]) -> Found
 }
 
 // Rule 29: HashType of the signature structure, if there is one.
-fn bad_signature(image: &[u8]) -> Found
+fn bad_signature(image: &[u8], signature: Found) -> Found
+    requires { ⌜ signature ≡ promSigAt (now image) ⌝ }
     ensures { λ r. ⌜ r ≡ rule29 (now (image .entry)) ⌝ }
 {
-    let Found::At(p) = prom_sig(image) else {
+    let Found::At(p) = signature else {
         return Found::Nothing;
     };
     bad_hash(image, p as u32)
 }
 
 // The rules from 32 on.
-fn judge_known(image: &[u8], kinds: Kinds) -> Judged
+fn judge_known(image: &[u8], kinds: Kinds, found: Findings) -> Judged
+    requires { ⌜ Finds kinds (now image) found ⌝ }
     ensures { λ r. ⌜ r ≡ answer (drop 12 (rules kinds (now (image .entry)))) (Judged.Accepted (length (structures (now (image .entry))))) ⌝ }
 {
-    if let Found::At(p) = first_from(Test::Known(KnownRule::Reserved), image, kinds, 0) {
+    let contents = walk_known(image, kinds, found.rest);
+    let reserved = contents.reserved;
+    let inside = contents.inside;
+    if let Found::At(p) = reserved {
         return refused(32, p);
     }
-    if let Found::At(p) = first_from(Test::Known(KnownRule::Inside), image, kinds, 0) {
+    if let Found::At(p) = inside {
         return refused(33, p);
     }
-    Judged::Accepted(structure_count(image))
+    Judged::Accepted(found.count)
 }
 
 // The rules from 29 on.
-fn judge_fields(image: &[u8], kinds: Kinds) -> Judged
+fn judge_fields(image: &[u8], kinds: Kinds, found: Findings) -> Judged
     requires { ⌜ rule25 (now image) ≡ Found.Nothing ⌝ }
+    requires { ⌜ Finds kinds (now image) found ⌝ }
     ensures { λ r. ⌜ r ≡ answer (drop 9 (rules kinds (now (image .entry)))) (Judged.Accepted (length (structures (now (image .entry))))) ⌝ }
 {
-    if let Found::At(p) = bad_signature(image) {
+    let signature = found.signature;
+    if let Found::At(p) = bad_signature(image, signature) {
         return refused(29, p);
     }
     if let Found::At(p) = bad_map(image, map_at(image)) {
@@ -204,40 +216,46 @@ fn judge_fields(image: &[u8], kinds: Kinds) -> Judged
     if let Found::At(p) = bad_board_type(image, board_at(image)) {
         return refused(31, p);
     }
-    judge_known(image, kinds)
+    judge_known(image, kinds, found)
 }
 
 // The rules from 26 on.
-fn judge_heads(image: &[u8], kinds: Kinds) -> Judged
+fn judge_heads(image: &[u8], kinds: Kinds, found: Findings) -> Judged
     requires { ⌜ rule25 (now image) ≡ Found.Nothing ⌝ }
+    requires { ⌜ Finds kinds (now image) found ⌝ }
     ensures { λ r. ⌜ r ≡ answer (drop 6 (rules kinds (now (image .entry)))) (Judged.Accepted (length (structures (now (image .entry))))) ⌝ }
 {
-    if let Found::At(p) = bad_heads(image) {
+    let signature = found.signature;
+    if let Found::At(p) = bad_heads(image, signature) {
         return refused(26, p);
     }
-    if let Found::At(p) = bad_check(image) {
+    if let Found::At(p) = bad_check(image, signature) {
         return refused(27, p);
     }
     if let Found::At(p) = ends_late(image) {
         return refused(28, p);
     }
-    judge_fields(image, kinds)
+    judge_fields(image, kinds, found)
 }
 
 // The rules from 23 on.
 fn judge_walk(image: &[u8], kinds: Kinds) -> Judged
     ensures { λ r. ⌜ r ≡ answer (drop 3 (rules kinds (now (image .entry)))) (Judged.Accepted (length (structures (now (image .entry))))) ⌝ }
 {
-    if let Found::At(p) = first_from(Test::Misplaced, image, kinds, 0) {
+    let found = walk_all(image, kinds);
+    let misplaced = found.misplaced;
+    let gap = found.gap;
+    let order = found.order;
+    if let Found::At(p) = misplaced {
         return refused(23, p);
     }
-    if let Found::At(p) = first_from(Test::GapUsed, image, kinds, 0) {
+    if let Found::At(p) = gap {
         return refused(24, p);
     }
-    if let Found::At(p) = bad_order(image, kinds) {
+    if let Found::At(p) = bad_order(image, order) {
         return refused(25, p);
     }
-    judge_heads(image, kinds)
+    judge_heads(image, kinds, found)
 }
 
 // Whether an image is accepted by a reader with this list, and how many items it has; or the refusal.

@@ -1,4 +1,4 @@
--- `bad_order` meets its contract: what is said of the second structure, else of the third, else what the search after them finds. Assumes nothing.
+-- `bad_order` meets its contract: what is said of the second structure, else of the third, else what was found after them. Assumes nothing.
 use Rattle.board_rules.proofs.bad_order.Statement.{statement}
 use Rattle.board_rules.proofs.bad_order.Tie as tie
 use borrow.Author.Needs.{needs}
@@ -47,19 +47,13 @@ returns-2 c =
 enum-told-4 : tie.Need-enum-told-4
 enum-told-4 c = search needs
 
-later-place-requires : tie.Need-later-place-requires
-later-place-requires c κs = search needs
-
-first-from-requires : tie.Need-first-from-requires
-first-from-requires c κs = search needs
-
 returns-3 : tie.Need-returns-3
 unfolding rule25
 returns-3 c =
-    let s = c .before .before .before .before .before .before .before .before .before .before .before .args .image .now in
-    let second : expected s eeprMap (mapAt s) ≡ Nothing = rw (c .before .before .before .before .before .before .before .before .before .map-place .ensures) at (rw (c .before .before .before .before .before .before .before .before .unexpected .ensures) at (c .before .before .before .before .before .before .enum-told2 .given .1)) in
-    let third : expected s brdInfo (boardAt s) ≡ Nothing = rw (c .before .before .before .before .before .board-place .ensures) at (rw (c .before .before .before .before .unexpected2 .ensures) at (c .before .before .enum-told4 .given .1)) in
-    rw (second, third, orElse-nothing _) (rw (c .before .later-place .ensures) at (c .first-from .ensures))
+    let s = c .before .before .before .before .before .before .before .before .before .args .image .now in
+    let second : expected s eeprMap (mapAt s) ≡ Nothing = rw (c .before .before .before .before .before .before .before .map-place .ensures) at (rw (c .before .before .before .before .before .before .unexpected .ensures) at (c .before .before .before .before .enum-told2 .given .1)) in
+    let third : expected s brdInfo (boardAt s) ≡ Nothing = rw (c .before .before .before .board-place .ensures) at (rw (c .before .before .unexpected2 .ensures) at (c .enum-told4 .given .1)) in
+    rw (second, third, orElse-nothing _) (c .before .before .before .before .before .before .before .before .before .pre)
 
 pub bad-order-spec : {M : Type 1} → statement M
 bad-order-spec =
@@ -75,6 +69,4 @@ bad-order-spec =
     enum-told-3
     returns-2
     enum-told-4
-    later-place-requires
-    first-from-requires
     returns-3)

@@ -7,7 +7,7 @@ use borrow.Author.Needs.{needs}
 use mathlib.Core.Path.{_≡_}
 
 bad-signature-requires : tie.Need-bad-signature-requires
-bad-signature-requires c κs = search needs
+bad-signature-requires c κs = c .before .pre .1 .signature
 
 enum-known-p : tie.Need-enum-known-p
 enum-known-p c = search needs

@@ -7,7 +7,7 @@ use borrow.Author.Needs.{needs}
 use mathlib.Core.Path.{_≡_}
 
 bad-heads-requires : tie.Need-bad-heads-requires
-bad-heads-requires c κs = search needs
+bad-heads-requires c κs = (c .before .pre .0, c .before .pre .1 .signature)
 
 enum-known-p : tie.Need-enum-known-p
 enum-known-p c = search needs
@@ -25,7 +25,7 @@ enum-told : tie.Need-enum-told
 enum-told c = search needs
 
 bad-check-requires : tie.Need-bad-check-requires
-bad-check-requires c κs = search needs
+bad-check-requires c κs = c .before .before .before .before .pre .1 .signature
 
 enum-known-p-2 : tie.Need-enum-known-p-2
 enum-known-p-2 c = search needs

@@ -19,10 +19,7 @@ use Rattle.board_records.specs.Records.{badMapRecord}
 use Rattle.board_records.specs.declared.RecordRule.the-variants.{MapFields}
 use Rattle.board_rules.specs.Judged.{rules, judged}
 use Rattle.board_rules.specs.Rules.{headerLength, rule20, rule21, rule22, misplaced, rule23, rule24, expected, isEarly, outOfOrder, rule25, promSigAt, onFound, rule26, rule27, rule28, rule29, rule30, rule31, rule32, rule33}
-use Rattle.board_rules.specs.Tests.{asked}
-use Rattle.board_rules.specs.declared.walk.KnownRule.the-variants.{Reserved, Inside}
-use Rattle.board_rules.specs.declared.walk.Test.{Test}
-use Rattle.board_rules.specs.declared.walk.Test.the-variants.{GapUsed, Known}
+use Rattle.board_rules.specs.Tests.{asked, Reserved, Inside, Test, GapUsed, Known}
 use Rattle.board_rules.specs.laws.Accepted.{checkTests, accepted-count, lent-within, struct-len-within}
 use Rattle.board_rules.specs.laws.Heads as heads
 use Rattle.board_rules.specs.laws.Order.{map-second, board-third, prom-sig-below}

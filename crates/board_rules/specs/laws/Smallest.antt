@@ -17,10 +17,7 @@ use Rattle.board_layout.specs.declared.Records.the-variants.{Map}
 use Rattle.board_layout.specs.laws.Layout.{next-grows}
 use Rattle.board_records.specs.Records.{badMapRecord}
 use Rattle.board_rules.specs.Rules.{misplaced, rule21, rule23, gapUsed, rule24, expected, outOfOrder, rule25, promSigAt, onFound, rule26, rule27, rule30, onKnown, rule32, rule33}
-use Rattle.board_rules.specs.Tests.{asked}
-use Rattle.board_rules.specs.declared.walk.KnownRule.the-variants.{Reserved, Inside}
-use Rattle.board_rules.specs.declared.walk.Test.{Test}
-use Rattle.board_rules.specs.declared.walk.Test.the-variants.{Misplaced, GapUsed, OutOfOrder, Known}
+use Rattle.board_rules.specs.Tests.{asked, Reserved, Inside, Test, Misplaced, GapUsed, OutOfOrder, Known}
 use Rattle.board_rules.specs.laws.Accepted.{checkTests}
 use Rattle.board_rules.specs.laws.Heads.{headChecks, prom-sig-later}
 use Rattle.board_rules.specs.laws.Order.{prom-sig-below}

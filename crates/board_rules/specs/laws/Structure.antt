@@ -21,9 +21,7 @@ use Rattle.board_layout.specs.laws.Layout.{next-grows, end-next}
 use Rattle.board_records.specs.Records.{badMapRecord, badGpioRecord, fieldUsed}
 use Rattle.board_records.specs.declared.RecordRule.the-variants.{MapFields, GpioFields, Reserved}
 use Rattle.board_rules.specs.Rules.{misplaced, gapUsed, isEarly, outOfOrder}
-use Rattle.board_rules.specs.Tests.{knownRule, asked}
-use Rattle.board_rules.specs.declared.walk.KnownRule.{KnownRule}
-use Rattle.board_rules.specs.declared.walk.Test.{Test}
+use Rattle.board_rules.specs.Tests.{knownRule, asked, KnownRule, Test}
 use Rattle.chain.specs.laws.Checks.{kept-equal}
 use Rattle.board_rules.specs.laws.Records.{field-within, record-within, records-before, records-found, reserved-ends}
 use Rattle.board_rules.specs.laws.Labelled.{labelled, labelled-smallest}
