@@ -20,7 +20,7 @@ use octets::le32_at;
 use octets::le64_at;
 ghost use mathlib.Core.Path.{_≡_};
 ghost use Prim.Native.Nat.{_+_, _≤_, _<_};
-ghost use lib.ListN.{length};
+ghost use lib.ListN.{length, take, drop};
 ghost use Rattle.chain.specs.Nth.{nth};
 ghost use Rattle.board_layout.specs.Layout.{headAt, majorAt, minorAt, lengthAt, shapeAt, structLen, endAt, covers, round16, next, structures, mapAt, boardAt, laterAt, dataOffset, recordSize, records};
 ghost use Rattle.board_layout.specs.Shapes.{listedShape, shapeOf, knows};
@@ -136,18 +136,42 @@ pub fn length_at(image: &[u8], at: u32) -> u32
     le32_at(image, at as usize + 0x0C)
 }
 
-// The generic head of the structure at a place, in two loads: the second has VerMajor, VerMinor and Length.
+// The sixteen bytes from a place on, or as many of them as there are. Of a part of sixteen bytes the compiler knows that what is read lies within.
+fn window<'a>(image: &'a [u8], place: usize) -> &'a [u8]
+    ensures { λ r. ⌜ now r ≡ take 16 (drop place (now (image .entry))) ⌝ }
+{
+    if place < image.len() {
+        if 16 <= image.len() - place {
+            let end = place + 16;
+            return &image[place..end];
+        }
+        return &image[place..];
+    }
+    &image[0..0]
+}
+
+// The generic head at the front of a part, in two loads: the second has VerMajor, VerMinor and Length.
+fn head_in(part: &[u8]) -> Head
+    ensures { λ r. ⌜ r ≡ headAt (now (part .entry)) 0 ⌝ }
+{
+    let signature = le64_at(part, 0);
+    let rest = le64_at(part, 0x08);
+    let major = (rest % 65536) as u16;
+    let minor = (rest / 65536 % 65536) as u16;
+    let length = (rest / 4294967296) as u32;
+    Head {
+        signature,
+        major,
+        minor,
+        length,
+    }
+}
+
+// The generic head of the structure at a place.
 pub fn head_at(image: &[u8], at: u32) -> Head
     ensures { λ r. ⌜ r ≡ headAt (now (image .entry)) at ⌝ }
 {
-    let signature = le64_at(image, at as usize);
-    let rest = le64_at(image, at as usize + 0x08);
-    Head {
-        signature,
-        major: (rest % 65536) as u16,
-        minor: (rest / 65536 % 65536) as u16,
-        length: (rest / 4294967296) as u32,
-    }
+    head_in(window(image, at as usize))
 }
 
 // The table of the structure at a place.

@@ -1,6 +1,6 @@
 -- What the code's two walks along the structures note and find. A reader of the rules may skip this. Assumes nothing.
 use Prim.Native.Nat.{ℕ, _+_}
-use mathlib.Core.Bool.{cond}
+use mathlib.Core.Bool.{false, cond}
 use mathlib.Core.List.{List}
 use mathlib.Core.Path.{_≡_}
 use lib.Dec.{ltb}
@@ -42,6 +42,12 @@ isKnown k s p = when (knows k (shapeAt s p)) p
 
 abbrev pub restAfter : Kinds → List ℕ → ℕ → ℕ → ℕ
 restAfter k s p rest = cond (knows k (shapeAt s p)) (next s p) rest
+
+-- a structure that is not known, keeps rule 23, and ends where the next one starts, or has only zeros up to there
+pub record Plain (k : Kinds) (s : List ℕ) (p : ℕ) : Type 0 where
+  pub placed : misplaced s p ≡ Nothing
+  pub tight : gapUsed s p ≡ Nothing
+  pub unknown : knows k (shapeAt s p) ≡ false
 
 -- what was found before the structure at p, or else is found there
 abbrev pub noted : Kinds → List ℕ → ℕ → ℕ → Findings → Findings

@@ -1,6 +1,7 @@
 -- What is proved of the definitions. Assumes nothing.
 
 pub mod Findings
+pub mod Plain
 pub mod Order
 pub mod Front
 pub mod Walk

@@ -1,17 +1,15 @@
 // The second walk along the structures, for rules 32 and 33: the known ones are looked into, and what each rule finds first is carried along.
 use board_fields::bad_inside;
 use board_fields::reserved_used;
-use board_layout::Head;
-use board_layout::head_at;
 use board_layout::is_known;
-use board_layout::next_after;
-use board_layout::shape_of;
+use board_layout::next_place;
+use board_layout::shape_at;
 use board_layout::struct_len;
 use chain::Found;
 use chain::or_else;
 use kinds::Kinds;
 ghost use mathlib.Core.Path.{_≡_};
-ghost use Rattle.board_rules.specs.Findings.{Seen, along, isKnown, lookedInto, Looked};
+ghost use Rattle.board_rules.specs.Findings.{along, isKnown, lookedInto, Looked};
 ghost use Rattle.chain.specs.declared.Found.{Found};
 
 // What was found in the known structures: the first place of each rule.
@@ -21,13 +19,12 @@ pub struct Contents {
 }
 
 // What is found with the structure at a place, after what was found before it.
-fn look_into(found: Contents, image: &[u8], kinds: Kinds, end: u32, at: u32, head: Head) -> Contents
-    requires { ⌜ Seen (now image) end at head ⌝ }
+fn look_into(found: Contents, image: &[u8], kinds: Kinds, at: u32) -> Contents
     ensures { λ r. ⌜ r ≡ lookedInto kinds (now (image .entry)) at found ⌝ }
 {
     let reserved = found.reserved;
     let inside = found.inside;
-    let shape = shape_of(head.signature, head.major);
+    let shape = shape_at(image, at);
     if is_known(kinds, shape) {
         return Contents {
             reserved: or_else(reserved, reserved_used(image, at, shape)),
@@ -42,23 +39,22 @@ pub fn walk_known(image: &[u8], kinds: Kinds, rest: usize) -> Contents
     requires { ⌜ along (now image) (isKnown kinds (now image)) rest ≡ Found.Nothing ⌝ }
     ensures { λ r. ⌜ Looked kinds (now (image .entry)) r ⌝ }
 {
-    let end = struct_len(image);
+    let end = struct_len(image) as usize;
     let mut found = Contents {
         reserved: Found::Nothing,
         inside: Found::Nothing,
     };
     let mut at = 0;
-    while at < end as usize {
+    while at < end {
         if at == rest {
             return found;
         }
-        let head = head_at(image, at as u32);
-        found = look_into(found, image, kinds, end, at as u32, head);
+        found = look_into(found, image, kinds, at as u32);
         let reserved = found.reserved;
         if let Found::At(_) = reserved {
             return found;
         }
-        at = next_after(at as u32, head.length);
+        at = next_place(image, at as u32);
     }
     found
 }

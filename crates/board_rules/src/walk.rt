@@ -17,9 +17,10 @@ use kinds::Kinds;
 use kinds::PROM_SIG;
 use octets::first_nonzero;
 use octets::le64_at;
+ghost use mathlib.Core.Bool.{true};
 ghost use mathlib.Core.Path.{_≡_};
 ghost use Prim.Native.Nat.{_≤_};
-ghost use Rattle.board_rules.specs.Findings.{Seen, orderFrom, restAfter, noted, Walked};
+ghost use Rattle.board_rules.specs.Findings.{Seen, orderFrom, restAfter, Plain, noted, Walked};
 ghost use Rattle.board_rules.specs.Rules.{misplaced, gapUsed, outOfOrder, isPromSig, promSigAt};
 
 // What a walk has found: the first place of each rule, the signature structure, from where on no structure is known, and how many structures there are.
@@ -134,6 +135,30 @@ fn rest_after(image: &[u8], kinds: Kinds, end: u32, at: u32, head: Head, rest: u
     rest
 }
 
+// Whether there is nothing to note of the structure at a place but that it is there: it is not known, keeps rule 23, and ends where the next one starts.
+fn is_plain(image: &[u8], kinds: Kinds, end: u32, at: u32, head: Head) -> bool
+    requires { ⌜ Seen (now image) end at head ⌝ }
+    ensures { λ r. ⌜ (r ≡ true → Plain kinds (now (image .entry)) at) ⌝ }
+{
+    let mark = head.signature % 256;
+    let length = head.length;
+    let finish = at as usize + length as usize;
+    let after = next_after(at, length);
+    if is_known(kinds, shape_of(head.signature, head.major)) {
+        return false;
+    }
+    if mark != 0x24 {
+        return false;
+    }
+    if length < 16 {
+        return false;
+    }
+    if (end as usize) < after {
+        return false;
+    }
+    finish == after
+}
+
 // What is found with the structure at a place, after what was found before it.
 fn note(
     found: Findings,
@@ -154,6 +179,16 @@ fn note(
     let signature = found.signature;
     let rest = found.rest;
     let count = found.count + 1;
+    if is_plain(image, kinds, end, at, head) {
+        return Findings {
+            misplaced,
+            gap,
+            order,
+            signature,
+            rest,
+            count,
+        };
+    }
     Findings {
         misplaced: or_else(misplaced, misplaced_at(image, end, at, head)),
         gap: or_else(gap, gap_used_at(image, end, at, head)),

@@ -13,7 +13,7 @@ pub fn or_else(earlier: Found, here: Found) -> Found
     ensures { λ r. ⌜ r ≡ orElse earlier here ⌝ }
 {
     match earlier {
-        Found::At(_) => earlier,
+        Found::At(p) => Found::At(p),
         Found::Nothing => here,
     }
 }

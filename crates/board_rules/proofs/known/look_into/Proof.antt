@@ -1,14 +1,13 @@
 -- `known::look_into` meets its contract: of a known structure each finding is that from before, or else what its rule says here; of another nothing is found.
 -- Assumes nothing.
 use mathlib.Core.Path.{sym, _∙_}
-use borrow.Author.Needs.{needs}
-use Rattle.board_rules.specs.laws.Findings.{seen-shape}
 use Rattle.chain.specs.laws.First.{orElse-nothing}
+use borrow.Author.Needs.{needs}
 use Rattle.board_rules.proofs.known.look_into.Statement.{statement}
 use Rattle.board_rules.proofs.known.look_into.Tie as tie
 
-shape-of-requires : tie.Need-shape-of-requires
-shape-of-requires c κs = search needs
+shape-at-requires : tie.Need-shape-at-requires
+shape-at-requires c κs = search needs
 
 is-known-requires : tie.Need-is-known-requires
 is-known-requires c κs = search needs
@@ -28,21 +27,20 @@ or-else-requires-2 c κs = search needs
 returns : tie.Need-returns
 returns c =
     let g = c .before .before .before .before .before .before in
-    let shape = g .shape-of .ensures ∙ seen-shape (g .before .before .pre) in
-    let told = rw shape at (c .before .before .before .before .before .is-known .ensures) in
+    let told = rw (g .shape-at .ensures) at (c .before .before .before .before .before .is-known .ensures) in
     rw (
       sym told ∙ c .before .before .before .before .if1 .taken,
       c .before .before .or-else .ensures,
       c .before .before .before .reserved-used .ensures,
       c .or-else2 .ensures,
       c .before .bad-inside .ensures,
-      shape,
+      g .shape-at .ensures,
     )
 
 returns-2 : tie.Need-returns-2
 returns-2 c =
     let g = c .before .before in
-    let told = rw (g .shape-of .ensures ∙ seen-shape (g .before .before .pre)) at (c .before .is-known .ensures) in
+    let told = rw (g .shape-at .ensures) at (c .before .is-known .ensures) in
     let found = g .before .before .args .found in
     rw (sym told ∙ c .if1 .left, orElse-nothing (found .reserved), orElse-nothing (found .inside))
 
@@ -50,7 +48,7 @@ pub look-into-spec : {M : Type 1} → statement M
 look-into-spec =
     tie.close
     (tie.spec
-    shape-of-requires
+    shape-at-requires
     is-known-requires
     reserved-used-requires
     or-else-requires

@@ -1,10 +1,20 @@
--- `walk::note` meets its contract: each finding is that from before, or else what its rule says here. Assumes nothing.
+-- `walk::note` meets its contract: a plain structure is counted and that is all (`plain-noted`); else each finding is that from before, or else what its rule
+-- says here. Assumes nothing.
+use Rattle.board_rules.specs.laws.Plain.{plain-noted}
 use borrow.Author.Needs.{needs}
 use Rattle.board_rules.proofs.walk.note.Statement.{statement}
 use Rattle.board_rules.proofs.walk.note.Tie as tie
 
 add-count : tie.Need-add-count
 add-count c = search needs
+
+is-plain-requires : tie.Need-is-plain-requires
+is-plain-requires c κs = search needs
+
+returns : tie.Need-returns
+returns c =
+    let b = c .before .before .before .before in
+    plain-noted (b .args .kinds) (b .args .image .now) (b .args .at) (c .before .is-plain .ensures (c .if1 .taken)) (b .args .later) (b .args .found)
 
 misplaced-at-requires : tie.Need-misplaced-at-requires
 misplaced-at-requires c κs = search needs
@@ -33,8 +43,8 @@ or-else-requires-4 c κs = search needs
 rest-after-requires : tie.Need-rest-after-requires
 rest-after-requires c κs = search needs
 
-returns : tie.Need-returns
-returns c =
+returns-2 : tie.Need-returns-2
+returns-2 c =
     let p = c .before .before .before .before in
     rw (
       p .before .before .before .or-else .ensures,
@@ -53,6 +63,8 @@ note-spec =
     tie.close
     (tie.spec
     add-count
+    is-plain-requires
+    returns
     misplaced-at-requires
     or-else-requires
     gap-used-at-requires
@@ -62,4 +74,4 @@ note-spec =
     prom-sig-at-requires
     or-else-requires-4
     rest-after-requires
-    returns)
+    returns-2)
