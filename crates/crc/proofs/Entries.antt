@@ -1,78 +1,151 @@
--- The entries of a table that is filled by doubling. With r below 2 ^ b, the entry 2 ^ b + r of table j is that of the bit, f (2 ^ b * 256 ^ j), and that
--- of r together, since f is additive and the two numbers share no bit.
+-- The tables that stand in the source, computed. A proof that cites one of these lists compares it with the source's by computation.
+-- CRC-8's table is computed entry by entry (`values`). For CRC-32 a table of w bits is made bit by bit, from the highest on (`span`): with one bit more at the
+-- end of a number and one shift more, a zero only comes down, and a one adds what the shifts make of 1 (`weave`). The tables follow each other from the last
+-- to the first, each with w shifts more (`tables`).
 -- Assumes nothing.
-use mathlib.Core.Path.{_≡_, sym, ap, ap₂, _∙_}
-use mathlib.Core.Logic.{⊎-elim}
-use mathlib.Core.List.{List}
-use Prim.Native.Nat.{ℕ, suc, _+_, _-_, _*_, _^_, _≤_, _<_}
-use native.Mathlib.Nat.{eq-or-lt-of-le, eq-zero-or-pos, zero-mul, mul-comm, add-zero, le-of-lt, lt-of-le-of-lt, mul-le-mul-right}
+use Prim.Native.Nat.{ℕ, zero, suc, _+_, _-_, _*_, _/_, _%_, _^_, _<_}
+use mathlib.Core.List.{List, [], _∷_, _++_}
+use mathlib.Core.Path.{_≡_, refl, sym, ap, ap₂, _∙_}
+use native.Mathlib.Nat.{one-mul, zero-mul, zero-add, add-zero, mul-suc, div-add-mod', two-pow-succ, mul-add, lt-of-mul-lt-mul-left}
 use native.Mathlib.Omega.{arith}
-use lib.Bits.{bitXor, xor-self}
-use lib.Pow.{pow-add, pow-lt, pow-pos, pow-mono}
-use lib.ListN.{getD}
-use Rattle.crc.specs.Tables.{Additive, Table, Doubled}
-use Rattle.crc.proofs.Places.{place, apart}
+use lib.Bits.{bitXor, xor-zero-r}
+use lib.ListN.{length, getD, List·getD-append}
+use lib.Seq.{getD-append-add}
+use Rattle.crc.specs.Crc32.{shift, shifts}
+use Rattle.crc.specs.Tables.{Table}
+use Rattle.crc.specs.laws.Crc32.{shifts-add}
+use Rattle.crc.specs.laws.Xor.{bit-ind, odd-lt}
+use Rattle.crc.proofs.Braid.{shifts-zero}
+use Rattle.crc.proofs.Lookup.{by-parts}
 
--- f of nothing is nothing
-additive-zero : {w : ℕ} {f : ℕ → ℕ} → Additive w f → f 0 ≡ 0
-additive-zero {w} {f} A = A .sum 0 0 (pow-pos w) (pow-pos w) ∙ xor-self (f 0)
+-- what f makes of n numbers, from k on
+abbrev pub values : (ℕ → ℕ) → ℕ → ℕ → List ℕ
+values f k zero = []
+values f k (suc n) = f k ∷ values f (suc k) n
 
--- fewer entries
-pub table-less : {f : ℕ → ℕ} {m n : ℕ} {t : List ℕ} → n ≤ m → Table f m t → Table f n t
-table-less h F = record { entry = λ j i hi l. F .entry j i hi (omega arith) }
+pub value-at : (f : ℕ → ℕ) (k n v : ℕ) → v < n → getD (values f k n) v 0 ≡ f (k + v)
+value-at f k zero v h = absurd (omega arith)
+value-at f k (suc n) zero h = ap f (sym (add-zero k))
+value-at f k (suc n) (suc v) h =
+    let e : suc k + v ≡ k + suc v = omega arith in
+    value-at f (suc k) n v (omega arith) ∙ ap f e
 
--- the bit b of the byte at place j
-module _ {f : ℕ → ℕ} {w : ℕ} (A : Additive w f) (j b : ℕ) (hb : b < 8) (hw : 8 * j + b < w) where
-  -- a bit at its byte's place
-  bit-place : 2 ^ (8 * j + b) ≡ 2 ^ b * 256 ^ j
-  bit-place = pow-add 2 (8 * j) b ∙ mul-comm (2 ^ (8 * j)) (2 ^ b) ∙ ap (λ (x : ℕ). 2 ^ b * x) (sym (place j))
+-- each element of l, and then that with x added
+abbrev weave : ℕ → List ℕ → List ℕ
+weave x [] = []
+weave x (e ∷ l) = e ∷ bitXor e x ∷ weave x l
 
-  -- is one of f's numbers
-  bit-below : 2 ^ b * 256 ^ j < 2 ^ w
-  bit-below = rw bit-place at (pow-lt hw)
+length-weave : (x : ℕ) (l : List ℕ) → length (weave x l) ≡ 2 * length l
+length-weave x [] = refl
+length-weave x (e ∷ l) =
+    let h = length-weave x l in
+    omega arith
 
-  -- the bit's entry and that of r
-  entry-sum : (r : ℕ) → r < 2 ^ b → bitXor (f (2 ^ (8 * j + b))) (f (r * 256 ^ j)) ≡ f ((2 ^ b + r) * 256 ^ j)
-  entry-sum r h =
-      ap (λ (x : ℕ). bitXor (f x) (f (r * 256 ^ j))) bit-place
-      ∙ sym (A .sum (2 ^ b * 256 ^ j) (r * 256 ^ j) bit-below (lt-of-le-of-lt (mul-le-mul-right (256 ^ j) (le-of-lt h)) bit-below))
-      ∙ ap f (apart j b r h)
+weave-at : (x b : ℕ) → b < 2 → (l : List ℕ) (r : ℕ) → r < length l → getD (weave x l) (r * 2 + b) 0 ≡ bitXor (getD l r 0) (b * x)
+weave-at x b hb [] r h = absurd (omega arith)
+weave-at x b hb (e ∷ l) zero h =
+    bit-ind (λ (b : ℕ). getD (weave x (e ∷ l)) (0 * 2 + b) 0 ≡ bitXor e (b * x)) (sym (ap (bitXor e) (zero-mul x) ∙ xor-zero-r e)) (ap (bitXor e) (sym (one-mul x))) b hb
+weave-at x b hb (e ∷ l) (suc r) h =
+    let d : suc r * 2 + b ≡ suc (suc (r * 2 + b)) = omega arith in
+    ap (λ (p : ℕ). getD (weave x (e ∷ l)) p 0) d ∙ weave-at x b hb l r (omega arith)
 
-  module _ (x : ℕ) (t u : List ℕ) (bit : x ≡ f (2 ^ (8 * j + b))) (d : Doubled (256 * j) (2 ^ b) x (2 ^ b) t u)
-      (F : Table f (256 * j + 2 ^ b) t) where
-    -- one of the new entries
-    new-entry : (r : ℕ) → r < 2 ^ b → getD u (256 * j + (2 ^ b + r)) 0 ≡ f ((2 ^ b + r) * 256 ^ j)
-    new-entry r h =
-        let e : 256 * j + (2 ^ b + r) ≡ 256 * j + 2 ^ b + r = omega arith in
-        let small : 2 ^ b ≤ 128 = pow-mono {i = b} {j = 7} (omega arith) in
-        ap (λ (p : ℕ). getD u p 0) e ∙ d .new r h ∙ ap₂ bitXor bit (F .entry j r (omega arith) (omega arith)) ∙ entry-sum r h
+-- l has what m shifts make of each number of k bits
+record Row (k m : ℕ) (l : List ℕ) : Type 0 where
+  size : length l ≡ 2 ^ k
+  at : (v : ℕ) → v < 2 ^ k → getD l v 0 ≡ shifts m v
 
-    -- twice as many entries
-    pub table-double : Table f (256 * j + 2 ^ b + 2 ^ b) u
-    table-double = record { entry = at }
-      where
-        at : (k i : ℕ) → i < 256 → 256 * k + i < 256 * j + 2 ^ b + 2 ^ b → getD u (256 * k + i) 0 ≡ f (i * 256 ^ k)
-        at k i hi l =
-            ⊎-elim {C = getD u (256 * k + i) 0 ≡ f (i * 256 ^ k)} (λ z. d .below (256 * k + i) (omega arith) ∙ F .entry k i hi (omega arith))
-            (λ more.
-            let small : 2 ^ b ≤ 128 = pow-mono {i = b} {j = 7} (omega arith) in
-            let ej : k ≡ j = omega arith in
-            let r : ℕ = i - 2 ^ b in
-            let ei : i ≡ 2 ^ b + r = omega arith in
-            ap₂ (λ (y z : ℕ). getD u (256 * y + z) 0) ej ei ∙ new-entry r (omega arith) ∙ ap₂ (λ (y z : ℕ). f (z * 256 ^ y)) (sym ej) (sym ei))
-            (eq-zero-or-pos (suc (256 * k + i) - (256 * j + 2 ^ b)))
+-- what n shifts make of a bit
+of-bit : (n b : ℕ) → b < 2 → b * shifts n 1 ≡ shifts n b
+of-bit n = bit-ind (λ (b : ℕ). b * shifts n 1 ≡ shifts n b) (zero-mul (shifts n 1) ∙ sym (shifts-zero n)) (one-mul (shifts n 1))
 
--- a table that begins: its first entry is zero
-pub table-first : {f : ℕ → ℕ} {w : ℕ} → Additive w f → (k : ℕ) (t : List ℕ) → getD t (256 * k) 0 ≡ 0 → Table f (256 * k) t → Table f (256 * k + 1) t
-table-first {f} A k t z F = record { entry = at }
+-- one bit more, and one shift
+row-weave : {k m : ℕ} {l : List ℕ} (x : ℕ) → x ≡ shifts (1 + m) 1 → Row k m l → Row (suc k) (1 + m) (weave x l)
+row-weave {k} {m} {l} x e R =
+    let twice : 2 ^ suc k ≡ 2 ^ k + 2 ^ k = two-pow-succ k in
+    record {
+      size = length-weave x l ∙ omega (arith, R .size);
+      at =
+          λ v h.
+          ap (λ (p : ℕ). getD (weave x l) p 0) (sym (div-add-mod' v 2))
+          ∙ weave-at x (v % 2) (odd-lt v) l (v / 2) (omega (arith, R .size))
+          ∙ ap₂ bitXor (R .at (v / 2) (omega arith)) (ap (λ (y : ℕ). v % 2 * y) e ∙ of-bit (1 + m) (v % 2) (odd-lt v))
+          ∙ by-parts 1 m v;
+    }
+
+-- k bits more; x is what one shift more makes of 1
+abbrev span : ℕ → ℕ → List ℕ → List ℕ
+span zero x l = l
+span (suc k) x l = span k (shift x) (weave x l)
+
+-- d shifts more
+ones : (d m n x : ℕ) → d + m ≡ n → x ≡ shifts m 1 → shifts d x ≡ shifts n 1
+ones d m n x e h =
+    let c : m + d ≡ n = omega arith in
+    ap (shifts d) h ∙ sym (shifts-add m d 1) ∙ ap (λ (k : ℕ). shifts k 1) c
+
+row-span : (k j m x : ℕ) {l : List ℕ} → x ≡ shifts (1 + m) 1 → Row j m l → Row (k + j) (k + m) (span k x l)
+unfolding shifts
+row-span zero j m x e R = rw (zero-add j, zero-add m) R
+row-span (suc k) j m x e R =
+    let ej : k + suc j ≡ suc k + j = omega arith in
+    let em : k + (1 + m) ≡ suc k + m = omega arith in
+    rw (ej, em) at (row-span k (suc j) (1 + m) (shift x) (ones 1 (1 + m) (1 + (1 + m)) x refl e) (row-weave x e R))
+
+-- all numbers of w bits
+module _ (w m x : ℕ) (e : x ≡ shifts (1 + m) 1) where
+  row : List ℕ
+  row = span w x (0 ∷ [])
+
+  row-right : Row w (w + m) row
+  unfolding row
+  row-right = rw add-zero at (row-span w 0 m x {l = 0 ∷ []} e (record { size = refl; at = first }))
+    where
+      first : (v : ℕ) → v < 1 → getD (0 ∷ []) v 0 ≡ shifts m v
+      first zero h = sym (shifts-zero m)
+      first (suc v) h = absurd (omega arith)
+
+-- k tables before l, the last with x
+abbrev pub tables : ℕ → ℕ → ℕ → List ℕ → List ℕ
+tables w zero x l = l
+tables w (suc k) x l = tables w k (shifts w x) (span w x (0 ∷ []) ++ l)
+
+module _ (w : ℕ) where
+  behind : (k m x : ℕ) (l : List ℕ) (p : ℕ) → x ≡ shifts (1 + m) 1 → getD (tables w k x l) (2 ^ w * k + p) 0 ≡ getD l p 0
+  unfolding row
+  behind zero m x l p e =
+      let d : 2 ^ w * 0 + p ≡ p = omega arith in
+      ap (λ (q : ℕ). getD l q 0) d
+  behind (suc k) m x l p e =
+      let t : List ℕ = span w x (0 ∷ []) in
+      let d : 2 ^ w * suc k + p ≡ 2 ^ w * k + (length t + p) = omega (arith, mul-suc (2 ^ w) k, row-right w m x e .size) in
+      ap (λ (q : ℕ). getD (tables w (suc k) x l) q 0) d
+      ∙ behind k (w + m) (shifts w x) (t ++ l) (length t + p) (ones w (1 + m) (1 + (w + m)) x (omega arith) e) ∙ getD-append-add t l p 0
+
+  table-at : (k m d j v x : ℕ) (l : List ℕ) → x ≡ shifts (1 + m) 1 → j + suc d ≡ k → v < 2 ^ w → getD (tables w k x l) (2 ^ w * j + v) 0 ≡ shifts (m + w * suc d) v
+  unfolding row
+  table-at zero m d j v x l e more h = absurd (omega arith)
+  table-at (suc k) m zero j v x l e more h =
+      let t : List ℕ = span w x (0 ∷ []) in
+      let last : j ≡ k = omega arith in
+      let R = row-right w m x e in
+      let s : w + m ≡ m + w * 1 = omega arith in
+      ap (λ (i : ℕ). getD (tables w (suc k) x l) (2 ^ w * i + v) 0) last
+      ∙ behind k (w + m) (shifts w x) (t ++ l) v (ones w (1 + m) (1 + (w + m)) x (omega arith) e)
+      ∙ List·getD-append t l 0 v (omega (arith, R .size)) ∙ R .at v h ∙ ap (λ (n : ℕ). shifts n v) s
+  table-at (suc k) m (suc d) j v x l e more h =
+      let t : List ℕ = span w x (0 ∷ []) in
+      let s : (w + m) + w * suc d ≡ m + w * suc (suc d) = omega (arith, mul-suc w (suc d)) in
+      table-at k (w + m) d j v (shifts w x) (t ++ l) (ones w (1 + m) (1 + (w + m)) x (omega arith) e) (omega arith) h ∙ ap (λ (n : ℕ). shifts n v) s
+
+-- k tables of w bits make a word
+pub tables-right : (w k m n : ℕ) → w * k ≡ 64 → m + 64 ≡ n → Table w n (tables w k (shifts (1 + m) 1) [])
+tables-right w k m n whole e = record { entry = at }
   where
-    first : (j i : ℕ) → j ≡ k → i ≡ 0 → getD t (256 * j + i) 0 ≡ f (i * 256 ^ j)
-    first j i ej ei =
-        ap₂ (λ (x y : ℕ). getD t (256 * x + y) 0) ej ei ∙ ap (λ (p : ℕ). getD t p 0) (add-zero (256 * k)) ∙ z ∙ sym (additive-zero A)
-        ∙ ap f (sym (zero-mul (256 ^ j)) ∙ ap (λ (y : ℕ). y * 256 ^ j) (sym ei))
-
-    at : (j i : ℕ) → i < 256 → 256 * j + i < 256 * k + 1 → getD t (256 * j + i) 0 ≡ f (i * 256 ^ j)
-    at j i hi l =
-        ⊎-elim {C = getD t (256 * j + i) 0 ≡ f (i * 256 ^ j)}
-        (λ e. first j i (omega arith) (omega arith)) (λ less. F .entry j i hi less)
-        (eq-or-lt-of-le {n = 256 * j + i} {m = 256 * k} (omega arith))
+    at : (j v : ℕ) → w * j < 64 → v < 2 ^ w → getD (tables w k (shifts (1 + m) 1) []) (2 ^ w * j + v) 0 ≡ shifts (n - w * j) v
+    at j v place h =
+        let inside : w * j < w * k = omega arith in
+        let less : j < k = lt-of-mul-lt-mul-left w inside in
+        let d : ℕ = k - suc j in
+        let c : j + suc d ≡ k = omega arith in
+        let s : m + w * suc d ≡ n - w * j = omega (arith, mul-add w j (suc d), ap (λ (i : ℕ). w * i) c) in
+        table-at w k m d j v (shifts (1 + m) 1) [] refl c h ∙ ap (λ (i : ℕ). shifts i v) s

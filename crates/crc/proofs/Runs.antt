@@ -1,6 +1,6 @@
--- A run of CRC-32 over bytes: one byte by the table, and bytes all at once as the number that they spell (`run-word`), eight at a time (`run-next`).
+-- A run of CRC-32 over bytes: bytes all at once, as the number that they spell (`run-word`), and eight at a time (`run-next`).
 -- Assumes nothing.
-use Prim.Native.Nat.{ℕ, zero, suc, _+_, _-_, _*_, _/_, _%_, _≤_, _<_}
+use Prim.Native.Nat.{ℕ, zero, suc, _+_, _-_, _*_, _≤_, _<_}
 use mathlib.Core.List.{List, [], _∷_}
 use mathlib.Core.Path.{_≡_, sym, ap, ap₂, _∙_}
 use native.Mathlib.Nat.{le-of-eq}
@@ -13,16 +13,6 @@ use Rattle.octets.specs.laws.Bytes.{octets-take, octets-drop}
 use Rattle.crc.specs.Crc32.{shifts, step32, run32}
 use Rattle.crc.specs.laws.Crc32.{shifts-xor, shifts-add, shifts-up, run32-append}
 use Rattle.crc.specs.laws.Xor.{xor-assoc}
-
--- the low byte goes by the table, and the rest comes down eight places
-pub step-by-table : (c b : ℕ) → step32 c b ≡ bitXor (shifts 8 (bitXor c b % 256)) (bitXor c b / 256)
-unfolding step32
-step-by-table c b =
-    let x : ℕ = bitXor c b in
-    let e : x ≡ x / 256 * 256 + x % 256 = omega arith in
-    ap (shifts 8) (e ∙ sym (xor-shifted (x / 256) 8 (x % 256) (omega arith)) ∙ xor-comm (x / 256 * 256) (x % 256))
-    ∙ shifts-xor 8 (x % 256) (x / 256 * 256)
-    ∙ ap (bitXor (shifts 8 (x % 256))) (shifts-up 8 (x / 256))
 
 -- a byte, and what stands above it
 step-word : (c b w : ℕ) → b < 256 → bitXor (step32 c b) w ≡ shifts 8 (bitXor c (b + 256 * w))
@@ -55,13 +45,16 @@ run-eight c s i h o =
     run-word (take 8 (drop i s)) (octets-take 8 (drop i s) (octets-drop i s o)) c
     ∙ ap (λ (n : ℕ). shifts (8 * n) (bitXor c (at8 s i))) e
 
+-- n bytes more, from i on
+pub run-more : (c : ℕ) (s : List ℕ) (i n : ℕ) → run32 c (take (i + n) s) ≡ run32 (run32 c (take i s)) (take n (drop i s))
+run-more c s i n = ap (run32 c) (take-add i n s) ∙ run32-append c (take i s) (take n (drop i s))
+
 -- eight bytes more, from i to j
 pub run-next : (c : ℕ) (s : List ℕ) (i j R : ℕ) → i + 8 ≡ j → j ≤ length s → Octets s → run32 c (take i s) ≡ R
     → run32 c (take j s) ≡ shifts 64 (bitXor R (at8 s i))
 run-next c s i j R e h o p =
     ap (λ (n : ℕ). run32 c (take n s)) (sym e)
-    ∙ ap (run32 c) (take-add i 8 s) ∙ run32-append c (take i s) (take 8 (drop i s))
-    ∙ run-eight (run32 c (take i s)) s i (omega arith) o
+    ∙ run-more c s i 8 ∙ run-eight (run32 c (take i s)) s i (omega arith) o
     ∙ ap (λ (x : ℕ). shifts 64 (bitXor x (at8 s i))) p
 
 -- the part from k on is what is left

@@ -1,36 +1,32 @@
 // CRC-32 of IEEE 802.3: reflected, polynomial EDB88320h, all ones at the start and inverted at the end.
-// A short message goes a byte at a time, a long one in lanes.
-use super::bytewise::run_bytes;
+// A short message goes a word at a time, a long one in lanes.
 use super::lanes::run_lanes;
-use super::tables::spread;
+use super::word_tables::word_tables;
+use super::words::run_words;
 ghost use mathlib.Core.Path.{_≡_};
 ghost use Prim.Native.Nat.{min};
 ghost use Rattle.crc.specs.Blank.{blank};
 ghost use Rattle.crc.specs.Crc32.{run32};
+ghost use Rattle.crc.specs.Tables.{Table};
 
-// What 8 shifts make of each bit of a byte.
-const BYTE_BASIS: [u32; 8] = [
-    0x77073096,
-    0xEE0E612C,
-    0x076DC419,
-    0x0EDB8832,
-    0x1DB71064,
-    0x3B6E20C8,
-    0x76DC4190,
-    0xEDB88320,
-];
+// The register after the bytes of s, from c. The lanes' tables are worth their writing out from some 256 bytes on.
+fn run(t: &[u32; 256], c: u32, s: &[u8]) -> u32
+    requires { ⌜ Table 4 64 (now t) ⌝ }
+    ensures { λ r. ⌜ r ≡ run32 c (now (s .entry)) ⌝ }
+{
+    if s.len() < 256 {
+        run_words(t, c, s)
+    } else {
+        run_lanes(t, c, s)
+    }
+}
 
-// The register after the bytes of s, from c: for a message that comes in parts. The tables of the lanes are worth their filling from some 256 bytes on.
+// The register after the bytes of s, from c: for a message that comes in parts.
 pub fn crc32_run(c: u32, s: &[u8]) -> u32
     ensures { λ r. ⌜ r ≡ run32 c (now (s .entry)) ⌝ }
 {
-    let mut t = [0u32; 256];
-    spread(&mut t, &BYTE_BASIS);
-    if s.len() < 256 {
-        run_bytes(&t, c, s)
-    } else {
-        run_lanes(&t, c, s)
-    }
+    let t = word_tables();
+    run(&t, c, s)
 }
 
 // The CRC-32 of s.
@@ -51,11 +47,12 @@ fn least(a: usize, b: usize) -> usize
 pub fn crc32_field_as_zero(s: &[u8]) -> u32
     ensures { λ r. ⌜ r ≡ Rattle.crc.specs.Crc32.crc32 (blank 0x14 4 (now (s .entry))) ⌝ }
 {
+    let t = word_tables();
     let zeros: &[u8] = &[0u8; 4];
     let at = least(0x14, s.len());
     let end = least(0x18, s.len());
     let n = end - at;
-    let before = crc32_run(0xFFFFFFFF, &s[0..at]);
-    let field = crc32_run(before, &zeros[0..n]);
-    crc32_run(field, &s[end..]) ^ 0xFFFFFFFF
+    let before = run_words(&t, 0xFFFFFFFF, &s[0..at]);
+    let field = run_words(&t, before, &zeros[0..n]);
+    run(&t, field, &s[end..]) ^ 0xFFFFFFFF
 }

@@ -1,23 +1,20 @@
-// CRC-8 (x^8 + x^2 + x + 1), a byte at a time by a table of what eight zero bits make of each byte.
-use super::tables::spread;
+// CRC-8 (x^8 + x^2 + x + 1), a byte at a time by a table of what eight zero bits leave of each byte.
+use super::crc8_table::remainders;
 ghost use mathlib.Core.Path.{_≡_};
-ghost use Rattle.crc.specs.Crc8.{eightZeros, step8, run8};
-ghost use Rattle.crc.specs.Tables.{Table};
-
-// What eight zero bits make of each single bit.
-const BASIS: [u32; 8] = [0x07, 0x0E, 0x1C, 0x38, 0x70, 0xE0, 0xC7, 0x89];
+ghost use Rattle.crc.specs.Crc8.{step8, run8};
+ghost use Rattle.crc.specs.Tables.{Remainders};
 
 // One byte more.
-fn step(t: &[u32; 256], c: u8, b: u8) -> u8
-    requires { ⌜ Table eightZeros 256 (now t) ⌝ }
+fn step(t: &[u8; 256], c: u8, b: u8) -> u8
+    requires { ⌜ Remainders (now t) ⌝ }
     ensures { λ r. ⌜ r ≡ step8 c b ⌝ }
 {
-    t[(c ^ b) as usize] as u8
+    t[(c ^ b) as usize]
 }
 
 // The bytes of s, one after the other.
-fn run_bytes(t: &[u32; 256], c: u8, s: &[u8]) -> u8
-    requires { ⌜ Table eightZeros 256 (now t) ⌝ }
+fn run_bytes(t: &[u8; 256], c: u8, s: &[u8]) -> u8
+    requires { ⌜ Remainders (now t) ⌝ }
     ensures { λ r. ⌜ r ≡ run8 c (now (s .entry)) ⌝ }
 {
     let mut r = c;
@@ -33,8 +30,7 @@ fn run_bytes(t: &[u32; 256], c: u8, s: &[u8]) -> u8
 pub fn crc8_run(c: u8, s: &[u8]) -> u8
     ensures { λ r. ⌜ r ≡ run8 c (now (s .entry)) ⌝ }
 {
-    let mut t = [0u32; 256];
-    spread(&mut t, &BASIS);
+    let t = remainders();
     run_bytes(&t, c, s)
 }
 

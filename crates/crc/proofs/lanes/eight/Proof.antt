@@ -13,31 +13,31 @@ use Rattle.crc.proofs.lanes.eight.Tie as tie
 add-e : tie.Need-add-e
 add-e c = search needs
 
-sub-run-bytes : tie.Need-sub-run-bytes
-sub-run-bytes c = search needs
+sub-run-words : tie.Need-sub-run-words
+sub-run-words c = search needs
 
-part-run-bytes-start : tie.Need-part-run-bytes-start
-part-run-bytes-start c = search needs
+part-run-words-start : tie.Need-part-run-words-start
+part-run-words-start c = search needs
 
-part-run-bytes-end : tie.Need-part-run-bytes-end
-part-run-bytes-end c = search needs
+part-run-words-end : tie.Need-part-run-words-end
+part-run-words-end c = search needs
 
-run-bytes-requires : tie.Need-run-bytes-requires
-run-bytes-requires c κs = search needs
+run-words-requires : tie.Need-run-words-requires
+run-words-requires c κs = search needs
 
 returns : tie.Need-returns
 returns c =
     let start = c .before .before .before in
     let size : start .args .i + 8 - start .args .i ≡ 8 = omega arith in
-    c .run-bytes .ensures ∙ ap (λ (n : ℕ). run32 (start .args .c) (take n (drop (start .args .i) (now (start .args .s))))) size
+    c .run-words .ensures ∙ ap (λ (n : ℕ). run32 (start .args .c) (take n (drop (start .args .i) (now (start .args .s))))) size
 
 pub eight-spec : {M : Type 1} → statement M
 eight-spec =
     tie.close
     (tie.spec
     add-e
-    sub-run-bytes
-    part-run-bytes-start
-    part-run-bytes-end
-    run-bytes-requires
+    sub-run-words
+    part-run-words-start
+    part-run-words-end
+    run-words-requires
     returns)

@@ -23,23 +23,23 @@ eight-requires-3 c κs = search needs
 eight-requires-4 : tie.Need-eight-requires-4
 eight-requires-4 c κs = search needs
 
-sub-run-bytes : tie.Need-sub-run-bytes
-sub-run-bytes c = search needs
+sub-run-words : tie.Need-sub-run-words
+sub-run-words c = search needs
 
-part-run-bytes-start : tie.Need-part-run-bytes-start
-part-run-bytes-start c = search needs
+part-run-words-start : tie.Need-part-run-words-start
+part-run-words-start c = search needs
 
-part-run-bytes-end : tie.Need-part-run-bytes-end
-part-run-bytes-end c = search needs
+part-run-words-end : tie.Need-part-run-words-end
+part-run-words-end c = search needs
 
-run-bytes-requires : tie.Need-run-bytes-requires
-run-bytes-requires c κs = search needs
+run-words-requires : tie.Need-run-words-requires
+run-words-requires c κs = search needs
 
 returns : tie.Need-returns
 returns c = λ R st.
     let start = c .before .before .before .before .before .before .before in
     let s = now (start .args .s) in
-    c .run-bytes .ensures
+    c .run-words .ensures
     ∙ run-on R (c .before .before .eight4 .result) s (take (length s - 32) (drop 32 s)) 32
     (lanes-end R s 0 (start .args .a0) (start .args .a1) (start .args .a2) (start .args .a3) (omega arith)
     (λ k. omega (arith, c .before .before .before .before .before .before .shared-slice-known .given k)) st _ _ _ _
@@ -55,8 +55,8 @@ join-spec =
     eight-requires-2
     eight-requires-3
     eight-requires-4
-    sub-run-bytes
-    part-run-bytes-start
-    part-run-bytes-end
-    run-bytes-requires
+    sub-run-words
+    part-run-words-start
+    part-run-words-end
+    run-words-requires
     returns)

@@ -1,11 +1,11 @@
--- `crc::lanes::load8` meets its contract. Twice four bytes (`twice-four`).
+-- `crc::load::load8` meets its contract. Twice four bytes (`twice-four`).
 -- Assumes nothing.
 use borrow.Author.Needs.{needs}
 use native.Mathlib.Omega.{arith}
 use denote.Ref.{now}
-use Rattle.crc.proofs.Load.{twice-four}
-use Rattle.crc.proofs.lanes.load8.Statement.{statement}
-use Rattle.crc.proofs.lanes.load8.Tie as tie
+use Rattle.crc.proofs.Loads.{twice-four}
+use Rattle.crc.proofs.load.load8.Statement.{statement}
+use Rattle.crc.proofs.load.load8.Tie as tie
 
 load4-requires : tie.Need-load4-requires
 load4-requires c κs = search needs

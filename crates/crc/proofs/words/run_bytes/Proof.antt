@@ -1,4 +1,4 @@
--- `crc::bytewise::run_bytes` meets its contract. The loop: r is the register after the first i bytes.
+-- `crc::words::run_bytes` meets its contract. The loop: r is the register after the first i bytes.
 -- Assumes nothing.
 use borrow.Author.Needs.{needs}
 use native.Mathlib.Omega.{arith}
@@ -8,8 +8,8 @@ use Prim.Native.Nat.{ℕ, _-_, _≤_}
 use lib.ListN.{length, take, getD}
 use Rattle.crc.specs.Crc32.{step32, run32}
 use Rattle.crc.proofs.Fold.{fold-one, fold-all}
-use Rattle.crc.proofs.bytewise.run_bytes.Statement.{statement}
-use Rattle.crc.proofs.bytewise.run_bytes.Tie as tie
+use Rattle.crc.proofs.words.run_bytes.Statement.{statement}
+use Rattle.crc.proofs.words.run_bytes.Tie as tie
 
 abbrev Inv-loop : tie.InvT-loop
 Inv-loop t c s r₀ i₀ r i = (i ≤ length s) × (r ≡ run32 c (take i s))

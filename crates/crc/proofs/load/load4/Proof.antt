@@ -1,11 +1,11 @@
--- `crc::lanes::load4` meets its contract. The four bytes are named one by one (`four`), and the sum is linear.
+-- `crc::load::load4` meets its contract. The four bytes are named one by one (`four`), and the sum is linear.
 -- Assumes nothing.
 use borrow.Author.Needs.{needs}
 use native.Mathlib.Omega.{arith}
 use denote.Ref.{now}
-use Rattle.crc.proofs.Load.{four}
-use Rattle.crc.proofs.lanes.load4.Statement.{statement}
-use Rattle.crc.proofs.lanes.load4.Tie as tie
+use Rattle.crc.proofs.Loads.{four}
+use Rattle.crc.proofs.load.load4.Statement.{statement}
+use Rattle.crc.proofs.load.load4.Tie as tie
 
 byte-at-requires : tie.Need-byte-at-requires
 byte-at-requires c κs = search needs

@@ -1,9 +1,9 @@
--- `crc::lanes::byte_at` meets its contract. A byte of the slice is below 256, which the slice's rule says.
+-- `crc::load::byte_at` meets its contract. A byte of the slice is below 256, which the slice's rule says.
 -- Assumes nothing.
 use borrow.Author.Needs.{needs}
 use native.Mathlib.Omega.{arith}
-use Rattle.crc.proofs.lanes.byte_at.Statement.{statement}
-use Rattle.crc.proofs.lanes.byte_at.Tie as tie
+use Rattle.crc.proofs.load.byte_at.Statement.{statement}
+use Rattle.crc.proofs.load.byte_at.Tie as tie
 
 shared-slice-read-result : tie.Need-shared-slice-read-result
 shared-slice-read-result c = search needs
