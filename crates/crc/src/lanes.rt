@@ -2,7 +2,7 @@
 // A lane goes on by 256 shifts, by eight tables of what 256 shifts make of each byte of a word.
 use super::lane_tables::lane_tables;
 use super::load::load8;
-use super::words::run_words;
+use super::words::{run_words, word};
 ghost use mathlib.Core.Path.{_≡_};
 ghost use Prim.Native.Nat.{ℕ, _+_, _≤_};
 ghost use lib.Bits.{bitXor};
@@ -33,24 +33,15 @@ fn lane(u: &[u32; 2048], a: u32, s: &[u8], i: usize) -> u32
     lookup(u, (a as u64) ^ load8(s, i))
 }
 
-// The register after eight bytes of s from i on, from c.
-fn eight(t: &[u32; 256], c: u32, s: &[u8], i: usize) -> u32
-    requires { ⌜ (Table 4 64 (now t)) × (i + 8 ≤ length (now s)) ⌝ }
-    ensures { λ r. ⌜ r ≡ run32 c (take 8 (drop i (now (s .entry)))) ⌝ }
-{
-    let e = i + 8;
-    run_words(t, c, &s[i..e])
-}
-
 // The four lanes take a word each and come together: the register after s, from the register R that the lanes stand for.
 fn join(t: &[u32; 256], a0: u32, a1: u32, a2: u32, a3: u32, s: &[u8]) -> u32
     requires { ⌜ (Table 4 64 (now t)) × (32 ≤ length (now s)) ⌝ }
     ensures { λ r. ⌜ ((R : ℕ) → Stand a0 a1 a2 a3 R → r ≡ run32 R (now (s .entry))) ⌝ }
 {
-    let r0 = eight(t, a0, s, 0);
-    let r1 = eight(t, r0 ^ a1, s, 8);
-    let r2 = eight(t, r1 ^ a2, s, 16);
-    let r3 = eight(t, r2 ^ a3, s, 24);
+    let r0 = word(t, a0, s, 0);
+    let r1 = word(t, r0 ^ a1, s, 8);
+    let r2 = word(t, r1 ^ a2, s, 16);
+    let r3 = word(t, r2 ^ a3, s, 24);
     run_words(t, r3, &s[32..])
 }
 

@@ -44,7 +44,7 @@ fn run_bytes(t: &[u32; 256], c: u32, s: &[u8]) -> u32
 }
 
 // The register after eight bytes of s from i on, from c.
-fn word(t: &[u32; 256], c: u32, s: &[u8], i: usize) -> u32
+pub(crate) fn word(t: &[u32; 256], c: u32, s: &[u8], i: usize) -> u32
     requires { ⌜ (Table 4 64 (now t)) × (i + 8 ≤ length (now s)) ⌝ }
     ensures { λ r. ⌜ r ≡ run32 c (take 8 (drop i (now (s .entry)))) ⌝ }
 {

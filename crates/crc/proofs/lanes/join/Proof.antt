@@ -11,17 +11,17 @@ use Rattle.crc.proofs.Runs.{run-on, part-rest}
 use Rattle.crc.proofs.lanes.join.Statement.{statement}
 use Rattle.crc.proofs.lanes.join.Tie as tie
 
-eight-requires : tie.Need-eight-requires
-eight-requires c κs = search needs
+word-requires : tie.Need-word-requires
+word-requires c κs = search needs
 
-eight-requires-2 : tie.Need-eight-requires-2
-eight-requires-2 c κs = search needs
+word-requires-2 : tie.Need-word-requires-2
+word-requires-2 c κs = search needs
 
-eight-requires-3 : tie.Need-eight-requires-3
-eight-requires-3 c κs = search needs
+word-requires-3 : tie.Need-word-requires-3
+word-requires-3 c κs = search needs
 
-eight-requires-4 : tie.Need-eight-requires-4
-eight-requires-4 c κs = search needs
+word-requires-4 : tie.Need-word-requires-4
+word-requires-4 c κs = search needs
 
 sub-run-words : tie.Need-sub-run-words
 sub-run-words c = search needs
@@ -40,21 +40,21 @@ returns c = λ R st.
     let start = c .before .before .before .before .before .before .before in
     let s = now (start .args .s) in
     c .run-words .ensures
-    ∙ run-on R (c .before .before .eight4 .result) s (take (length s - 32) (drop 32 s)) 32
+    ∙ run-on R (c .before .before .word4 .result) s (take (length s - 32) (drop 32 s)) 32
     (lanes-end R s 0 (start .args .a0) (start .args .a1) (start .args .a2) (start .args .a3) (omega arith)
     (λ k. omega (arith, c .before .before .before .before .before .before .shared-slice-known .given k)) st _ _ _ _
-    (c .before .before .before .before .before .eight .ensures) (c .before .before .before .before .eight2 .ensures) (c .before .before .before .eight3 .ensures)
-    (c .before .before .eight4 .ensures))
+    (c .before .before .before .before .before .word .ensures) (c .before .before .before .before .word2 .ensures) (c .before .before .before .word3 .ensures)
+    (c .before .before .word4 .ensures))
     (part-rest s 32)
 
 pub join-spec : {M : Type 1} → statement M
 join-spec =
     tie.close
     (tie.spec
-    eight-requires
-    eight-requires-2
-    eight-requires-3
-    eight-requires-4
+    word-requires
+    word-requires-2
+    word-requires-3
+    word-requires-4
     sub-run-words
     part-run-words-start
     part-run-words-end
