@@ -34,16 +34,17 @@ run-word (b ∷ bs) h c =
     ∙ sym (shifts-add 8 (8 * length bs) (bitXor c (b + 256 * little bs)))
     ∙ ap (λ (k : ℕ). shifts k (bitXor c (b + 256 * little bs))) e
 
+-- n of them from i on
+pub run-part : (c : ℕ) (s : List ℕ) (i n : ℕ) → i + n ≤ length s → Octets s
+    → run32 c (take n (drop i s)) ≡ shifts (8 * n) (bitXor c (little (take n (drop i s))))
+run-part c s i n h o =
+    let e : length (take n (drop i s)) ≡ n = simp (length-take, length-drop) (omega arith) in
+    run-word (take n (drop i s)) (octets-take n (drop i s) (octets-drop i s o)) c
+    ∙ ap (λ (k : ℕ). shifts (8 * k) (bitXor c (little (take n (drop i s))))) e
+
 -- the number that eight bytes spell from i on
 abbrev pub at8 : List ℕ → ℕ → ℕ
 at8 s i = little (take 8 (drop i s))
-
--- eight bytes from i on
-pub run-eight : (c : ℕ) (s : List ℕ) (i : ℕ) → i + 8 ≤ length s → Octets s → run32 c (take 8 (drop i s)) ≡ shifts 64 (bitXor c (at8 s i))
-run-eight c s i h o =
-    let e : length (take 8 (drop i s)) ≡ 8 = simp (length-take, length-drop) (omega arith) in
-    run-word (take 8 (drop i s)) (octets-take 8 (drop i s) (octets-drop i s o)) c
-    ∙ ap (λ (n : ℕ). shifts (8 * n) (bitXor c (at8 s i))) e
 
 -- n bytes more, from i on
 pub run-more : (c : ℕ) (s : List ℕ) (i n : ℕ) → run32 c (take (i + n) s) ≡ run32 (run32 c (take i s)) (take n (drop i s))
@@ -54,7 +55,7 @@ pub run-next : (c : ℕ) (s : List ℕ) (i j R : ℕ) → i + 8 ≡ j → j ≤ 
     → run32 c (take j s) ≡ shifts 64 (bitXor R (at8 s i))
 run-next c s i j R e h o p =
     ap (λ (n : ℕ). run32 c (take n s)) (sym e)
-    ∙ run-more c s i 8 ∙ run-eight (run32 c (take i s)) s i (omega arith) o
+    ∙ run-more c s i 8 ∙ run-part (run32 c (take i s)) s i 8 (omega arith) o
     ∙ ap (λ (x : ℕ). shifts 64 (bitXor x (at8 s i))) p
 
 -- the part from k on is what is left

@@ -11,7 +11,7 @@ use Rattle.crc.specs.Crc32.{shifts, run32}
 use Rattle.crc.specs.Tables.{Stand}
 use Rattle.crc.specs.laws.Xor.{xor-assoc}
 use Rattle.crc.proofs.Braid.{shifts-zero, mix, sequence, braid-turn, braid-end}
-use Rattle.crc.proofs.Runs.{at8, run-eight, run-next}
+use Rattle.crc.proofs.Runs.{at8, run-part, run-next}
 
 -- four lanes in a list
 mix-four : (a0 a1 a2 a3 : ℕ) → mix (λ (x : ℕ). x) (a0 ∷ a1 ∷ a2 ∷ a3 ∷ []) ≡ bitXor (shifts 192 a0) (bitXor (shifts 128 a1) (bitXor (shifts 64 a2) a3))
@@ -46,7 +46,7 @@ module _ (c : ℕ) (s : List ℕ) (i a0 a1 a2 a3 : ℕ) (h : i + 32 ≤ length s
   -- eight bytes from the register r and the lane a
   on : (r a k x y : ℕ) → k + 8 ≤ length s → y ≡ run32 (bitXor r a) (take 8 (drop k s)) → r ≡ x → y ≡ shifts 64 (bitXor x (bitXor a (at8 s k)))
   on r a k x y l e p =
-      e ∙ run-eight (bitXor r a) s k l o
+      e ∙ run-part (bitXor r a) s k 8 l o
       ∙ ap (shifts 64) (xor-assoc r a (at8 s k) ∙ ap (λ (n : ℕ). bitXor n (bitXor a (at8 s k))) p)
 
   -- the lanes come together
@@ -56,7 +56,7 @@ module _ (c : ℕ) (s : List ℕ) (i a0 a1 a2 a3 : ℕ) (h : i + 32 ≤ length s
   unfolding pairs
   lanes-end r0 r1 r2 r3 e0 e1 e2 e3 =
       on r2 a3 (i + 24) _ r3 (omega arith) e3
-      (on r1 a2 (i + 16) _ r2 (omega arith) e2 (on r0 a1 (i + 8) _ r1 (omega arith) e1 (e0 ∙ run-eight a0 s i (omega arith) o)))
+      (on r1 a2 (i + 16) _ r2 (omega arith) e2 (on r0 a1 (i + 8) _ r1 (omega arith) e1 (e0 ∙ run-part a0 s i 8 (omega arith) o)))
       ∙ braid-end (λ p. p .0) (λ p. p .1) pairs (run32 c (take i s)) 192 refl (mix-four a0 a1 a2 a3 ∙ st .stands) ∙ sym run-pairs
 
 -- where the loop begins the first lane has the register

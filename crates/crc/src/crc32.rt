@@ -14,7 +14,7 @@ fn run(t: &[u32; 256], c: u32, s: &[u8]) -> u32
     requires { ⌜ Table 4 64 (now t) ⌝ }
     ensures { λ r. ⌜ r ≡ run32 c (now (s .entry)) ⌝ }
 {
-    if s.len() < 256 {
+    if s.len() < 384 {
         run_words(t, c, s)
     } else {
         run_lanes(t, c, s)

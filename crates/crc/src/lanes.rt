@@ -2,7 +2,8 @@
 // A lane goes on by 256 shifts, by eight tables of what 256 shifts make of each byte of a word.
 use super::lane_tables::lane_tables;
 use super::load::load8;
-use super::words::{run_words, word};
+use super::words::run_words;
+use super::words::word;
 ghost use mathlib.Core.Path.{_≡_};
 ghost use Prim.Native.Nat.{ℕ, _+_, _≤_};
 ghost use lib.Bits.{bitXor};

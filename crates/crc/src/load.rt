@@ -13,7 +13,7 @@ fn byte_at(s: &[u8], i: usize) -> u64
 }
 
 // Four bytes of s from i on.
-fn load4(s: &[u8], i: usize) -> u64
+pub(crate) fn load4(s: &[u8], i: usize) -> u64
     requires { ⌜ i + 4 ≤ length (now s) ⌝ }
     ensures { λ r. ⌜ (r ≡ little (take 4 (drop i (now (s .entry))))) × (r < 2 ^ 32) ⌝ }
 {

@@ -1,4 +1,5 @@
 // CRC-32 eight bytes at a time, by sixteen tables of sixteen entries: one for each four bits of a word.
+use super::load::load4;
 use super::load::load8;
 ghost use mathlib.Core.Path.{_≡_};
 ghost use Prim.Native.Nat.{_+_, _*_, _/_, _^_, _≤_};
@@ -51,7 +52,27 @@ pub(crate) fn word(t: &[u32; 256], c: u32, s: &[u8], i: usize) -> u32
     lookup(t, 16, 0, (c as u64) ^ load8(s, i))
 }
 
-// The register after the bytes of s, from c: eight at a time, and what is left one by one.
+// The register after four bytes of s from i on, from c.
+fn half(t: &[u32; 256], c: u32, s: &[u8], i: usize) -> u32
+    requires { ⌜ (Table 4 64 (now t)) × (i + 4 ≤ length (now s)) ⌝ }
+    ensures { λ r. ⌜ r ≡ run32 c (take 4 (drop i (now (s .entry)))) ⌝ }
+{
+    lookup(t, 8, 0, (c as u64) ^ load4(s, i))
+}
+
+// The register after the bytes of s, from c: four at once if there are so many, and the others one by one.
+fn run_rest(t: &[u32; 256], c: u32, s: &[u8]) -> u32
+    requires { ⌜ Table 4 64 (now t) ⌝ }
+    ensures { λ r. ⌜ r ≡ run32 c (now (s .entry)) ⌝ }
+{
+    if s.len() < 4 {
+        run_bytes(t, c, s)
+    } else {
+        run_bytes(t, half(t, c, s, 0), &s[4..])
+    }
+}
+
+// The register after the bytes of s, from c: eight at a time, and then the rest.
 pub(crate) fn run_words(t: &[u32; 256], c: u32, s: &[u8]) -> u32
     requires { ⌜ Table 4 64 (now t) ⌝ }
     ensures { λ r. ⌜ r ≡ run32 c (now (s .entry)) ⌝ }
@@ -62,5 +83,5 @@ pub(crate) fn run_words(t: &[u32; 256], c: u32, s: &[u8]) -> u32
         r = word(t, r, s, i);
         i += 8;
     }
-    run_bytes(t, r, &s[i..])
+    run_rest(t, r, &s[i..])
 }

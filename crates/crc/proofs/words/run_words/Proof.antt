@@ -41,24 +41,24 @@ loop-again c =
       c .word .ensures ∙ ap (λ (r : ℕ). run32 r (take 8 (drop (at .i) s))) (at .inv .1) ∙ sym (run-more (start .args .c) s (at .i) 8),
     )
 
-sub-run-bytes : tie.Need-sub-run-bytes Inv-loop μ-loop
-sub-run-bytes c = omega arith
+sub-run-rest : tie.Need-sub-run-rest Inv-loop μ-loop
+sub-run-rest c = omega arith
 
-part-run-bytes-start : tie.Need-part-run-bytes-start Inv-loop μ-loop
-part-run-bytes-start c = omega arith
+part-run-rest-start : tie.Need-part-run-rest-start Inv-loop μ-loop
+part-run-rest-start c = omega arith
 
-part-run-bytes-end : tie.Need-part-run-bytes-end Inv-loop μ-loop
-part-run-bytes-end c = omega arith
+part-run-rest-end : tie.Need-part-run-rest-end Inv-loop μ-loop
+part-run-rest-end c = omega arith
 
-run-bytes-requires : tie.Need-run-bytes-requires Inv-loop μ-loop
-run-bytes-requires c κs = c .before .before .before .before .pre
+run-rest-requires : tie.Need-run-rest-requires Inv-loop μ-loop
+run-rest-requires c κs = c .before .before .before .before .pre
 
 returns : tie.Need-returns Inv-loop μ-loop
 returns c =
     let start = c .before .before .before .before .before in
     let at = c .before .before .before .loop in
     let s = now (start .args .s) in
-    c .run-bytes .ensures ∙ run-on (start .args .c) (at .r) s (take (length s - at .i) (drop (at .i) s)) (at .i) (at .inv .1) (part-rest s (at .i))
+    c .run-rest .ensures ∙ run-on (start .args .c) (at .r) s (take (length s - at .i) (drop (at .i) s)) (at .i) (at .inv .1) (part-rest s (at .i))
 
 pub run-words-spec : {M : Type 1} → statement M
 run-words-spec =
@@ -72,8 +72,8 @@ run-words-spec =
     add-i
     loop-less
     loop-again
-    sub-run-bytes
-    part-run-bytes-start
-    part-run-bytes-end
-    run-bytes-requires
+    sub-run-rest
+    part-run-rest-start
+    part-run-rest-end
+    run-rest-requires
     returns)

@@ -1,4 +1,4 @@
--- `crc::words::word` meets its contract. Eight bytes may be added all at once (`run-eight`), and nothing stands above sixteen parts of four bits.
+-- `crc::words::word` meets its contract. Eight bytes may be added all at once (`run-part`), and nothing stands above sixteen parts of four bits.
 -- Assumes nothing.
 use borrow.Author.Needs.{needs}
 use native.Mathlib.Nat.{div-eq-of-lt}
@@ -8,7 +8,7 @@ use denote.Ref.{now}
 use Prim.Native.Nat.{ℕ}
 use lib.Bits.{bitXor, xor-lt}
 use Rattle.crc.specs.Crc32.{shifts}
-use Rattle.crc.proofs.Runs.{run-eight}
+use Rattle.crc.proofs.Runs.{run-part}
 use Rattle.crc.proofs.words.word.Statement.{statement}
 use Rattle.crc.proofs.words.word.Tie as tie
 
@@ -25,7 +25,7 @@ returns c =
     let start = c .before .before .before in
     let s = now (start .args .s) in
     c .lookup .ensures ∙ ap (λ (w : ℕ). shifts 64 (bitXor (start .args .c) w)) (c .before .load8 .ensures)
-    ∙ sym (run-eight (start .args .c) s (start .args .i) (start .pre .1) (λ k. omega (arith, c .before .before .shared-slice-known .given k)))
+    ∙ sym (run-part (start .args .c) s (start .args .i) 8 (start .pre .1) (λ k. omega (arith, c .before .before .shared-slice-known .given k)))
 
 pub word-spec : {M : Type 1} → statement M
 word-spec = tie.close (tie.spec load8-requires lookup-requires returns)
