@@ -1,7 +1,7 @@
 -- The tables that stand in the source, computed. A proof that cites one of these lists compares it with the source's by computation.
--- CRC-8's table is computed entry by entry (`values`). For CRC-32 a table of w bits is made bit by bit, from the highest on (`span`): with one bit more at the
--- end of a number and one shift more, a zero only comes down, and a one adds what the shifts make of 1 (`weave`). The tables follow each other from the last
--- to the first, each with w shifts more (`tables`).
+-- CRC-8's table is computed entry by entry (`values`). A table of CRC-32 is computed bit by bit, the highest bit of its numbers first (`span`): one bit more at
+-- the end of a number and one shift more take each entry over if the bit is 0, and add what the shifts make of 1 if it is 1 (`weave`). The tables are computed
+-- from the last to the first, each with w shifts more than the one behind it (`tables`).
 -- Assumes nothing.
 use Prim.Native.Nat.{ℕ, zero, suc, _+_, _-_, _*_, _/_, _%_, _^_, _<_}
 use mathlib.Core.List.{List, [], _∷_, _++_}
@@ -72,16 +72,16 @@ row-weave {k} {m} {l} x e R =
           ∙ by-parts 1 m v;
     }
 
--- k bits more; x is what one shift more makes of 1
+-- d shifts more of 1
+more-shifts : (d m n x : ℕ) → d + m ≡ n → x ≡ shifts m 1 → shifts d x ≡ shifts n 1
+more-shifts d m n x e h =
+    let c : m + d ≡ n = omega arith in
+    ap (shifts d) h ∙ sym (shifts-add m d 1) ∙ ap (λ (k : ℕ). shifts k 1) c
+
+-- k bits and k shifts more; x is what one shift more makes of 1
 abbrev span : ℕ → ℕ → List ℕ → List ℕ
 span zero x l = l
 span (suc k) x l = span k (shift x) (weave x l)
-
--- d shifts more
-ones : (d m n x : ℕ) → d + m ≡ n → x ≡ shifts m 1 → shifts d x ≡ shifts n 1
-ones d m n x e h =
-    let c : m + d ≡ n = omega arith in
-    ap (shifts d) h ∙ sym (shifts-add m d 1) ∙ ap (λ (k : ℕ). shifts k 1) c
 
 row-span : (k j m x : ℕ) {l : List ℕ} → x ≡ shifts (1 + m) 1 → Row j m l → Row (k + j) (k + m) (span k x l)
 unfolding shifts
@@ -89,63 +89,63 @@ row-span zero j m x e R = rw (zero-add j, zero-add m) R
 row-span (suc k) j m x e R =
     let ej : k + suc j ≡ suc k + j = omega arith in
     let em : k + (1 + m) ≡ suc k + m = omega arith in
-    rw (ej, em) at (row-span k (suc j) (1 + m) (shift x) (ones 1 (1 + m) (1 + (1 + m)) x refl e) (row-weave x e R))
+    rw (ej, em) at (row-span k (suc j) (1 + m) (shift x) (more-shifts 1 (1 + m) (1 + (1 + m)) x refl e) (row-weave x e R))
 
--- all numbers of w bits
-module _ (w m x : ℕ) (e : x ≡ shifts (1 + m) 1) where
-  row : List ℕ
-  row = span w x (0 ∷ [])
+-- a table of w bits, from that of no bits
+abbrev table : ℕ → ℕ → List ℕ
+table w x = span w x (0 ∷ [])
 
-  row-right : Row w (w + m) row
-  unfolding row
-  row-right = rw add-zero at (row-span w 0 m x {l = 0 ∷ []} e (record { size = refl; at = first }))
-    where
-      first : (v : ℕ) → v < 1 → getD (0 ∷ []) v 0 ≡ shifts m v
-      first zero h = sym (shifts-zero m)
-      first (suc v) h = absurd (omega arith)
+row-table : (w m x : ℕ) → x ≡ shifts (1 + m) 1 → Row w (w + m) (table w x)
+row-table w m x e = rw add-zero at (row-span w 0 m x {l = 0 ∷ []} e (record { size = refl; at = first }))
+  where
+    first : (v : ℕ) → v < 1 → getD (0 ∷ []) v 0 ≡ shifts m v
+    first zero h = sym (shifts-zero m)
+    first (suc v) h = absurd (omega arith)
 
--- k tables before l, the last with x
+-- k tables of w bits before l, the last of them from x
 abbrev pub tables : ℕ → ℕ → ℕ → List ℕ → List ℕ
 tables w zero x l = l
-tables w (suc k) x l = tables w k (shifts w x) (span w x (0 ∷ []) ++ l)
+tables w (suc k) x l = tables w k (shifts w x) (table w x ++ l)
 
 module _ (w : ℕ) where
+  -- the next table has w shifts more
+  up : (m x : ℕ) → x ≡ shifts (1 + m) 1 → shifts w x ≡ shifts (1 + (w + m)) 1
+  up m x = more-shifts w (1 + m) (1 + (w + m)) x (omega arith)
+
   behind : (k m x : ℕ) (l : List ℕ) (p : ℕ) → x ≡ shifts (1 + m) 1 → getD (tables w k x l) (2 ^ w * k + p) 0 ≡ getD l p 0
-  unfolding row
   behind zero m x l p e =
       let d : 2 ^ w * 0 + p ≡ p = omega arith in
       ap (λ (q : ℕ). getD l q 0) d
   behind (suc k) m x l p e =
-      let t : List ℕ = span w x (0 ∷ []) in
-      let d : 2 ^ w * suc k + p ≡ 2 ^ w * k + (length t + p) = omega (arith, mul-suc (2 ^ w) k, row-right w m x e .size) in
+      let n = length (table w x) in
+      let d : 2 ^ w * suc k + p ≡ 2 ^ w * k + (n + p) = omega (arith, mul-suc (2 ^ w) k, row-table w m x e .size) in
       ap (λ (q : ℕ). getD (tables w (suc k) x l) q 0) d
-      ∙ behind k (w + m) (shifts w x) (t ++ l) (length t + p) (ones w (1 + m) (1 + (w + m)) x (omega arith) e) ∙ getD-append-add t l p 0
+      ∙ behind k (w + m) (shifts w x) (table w x ++ l) (n + p) (up m x e) ∙ getD-append-add (table w x) l p 0
 
-  table-at : (k m d j v x : ℕ) (l : List ℕ) → x ≡ shifts (1 + m) 1 → j + suc d ≡ k → v < 2 ^ w → getD (tables w k x l) (2 ^ w * j + v) 0 ≡ shifts (m + w * suc d) v
-  unfolding row
-  table-at zero m d j v x l e more h = absurd (omega arith)
-  table-at (suc k) m zero j v x l e more h =
-      let t : List ℕ = span w x (0 ∷ []) in
+  -- table j, with d tables behind it
+  table-at : (k m d j v x : ℕ) (l : List ℕ) → x ≡ shifts (1 + m) 1 → j + suc d ≡ k → v < 2 ^ w
+      → getD (tables w k x l) (2 ^ w * j + v) 0 ≡ shifts (m + w * suc d) v
+  table-at zero m d j v x l e c h = absurd (omega arith)
+  table-at (suc k) m zero j v x l e c h =
+      let R = row-table w m x e in
       let last : j ≡ k = omega arith in
-      let R = row-right w m x e in
       let s : w + m ≡ m + w * 1 = omega arith in
-      ap (λ (i : ℕ). getD (tables w (suc k) x l) (2 ^ w * i + v) 0) last
-      ∙ behind k (w + m) (shifts w x) (t ++ l) v (ones w (1 + m) (1 + (w + m)) x (omega arith) e)
-      ∙ List·getD-append t l 0 v (omega (arith, R .size)) ∙ R .at v h ∙ ap (λ (n : ℕ). shifts n v) s
-  table-at (suc k) m (suc d) j v x l e more h =
-      let t : List ℕ = span w x (0 ∷ []) in
-      let s : (w + m) + w * suc d ≡ m + w * suc (suc d) = omega (arith, mul-suc w (suc d)) in
-      table-at k (w + m) d j v (shifts w x) (t ++ l) (ones w (1 + m) (1 + (w + m)) x (omega arith) e) (omega arith) h ∙ ap (λ (n : ℕ). shifts n v) s
+      ap (λ (i : ℕ). getD (tables w (suc k) x l) (2 ^ w * i + v) 0) last ∙ behind k (w + m) (shifts w x) (table w x ++ l) v (up m x e)
+      ∙ List·getD-append (table w x) l 0 v (omega (arith, R .size)) ∙ R .at v h ∙ ap (λ (n : ℕ). shifts n v) s
+  table-at (suc k) m (suc d) j v x l e c h =
+      let s : w + m + w * suc d ≡ m + w * suc (suc d) = omega (arith, mul-suc w (suc d)) in
+      table-at k (w + m) d j v (shifts w x) (table w x ++ l) (up m x e) (omega arith) h ∙ ap (λ (n : ℕ). shifts n v) s
 
--- k tables of w bits make a word
+-- the k tables of a word's parts of w bits
 pub tables-right : (w k m n : ℕ) → w * k ≡ 64 → m + 64 ≡ n → Table w n (tables w k (shifts (1 + m) 1) [])
-tables-right w k m n whole e = record { entry = at }
-  where
-    at : (j v : ℕ) → w * j < 64 → v < 2 ^ w → getD (tables w k (shifts (1 + m) 1) []) (2 ^ w * j + v) 0 ≡ shifts (n - w * j) v
-    at j v place h =
-        let inside : w * j < w * k = omega arith in
-        let less : j < k = lt-of-mul-lt-mul-left w inside in
-        let d : ℕ = k - suc j in
-        let c : j + suc d ≡ k = omega arith in
-        let s : m + w * suc d ≡ n - w * j = omega (arith, mul-add w j (suc d), ap (λ (i : ℕ). w * i) c) in
-        table-at w k m d j v (shifts (1 + m) 1) [] refl c h ∙ ap (λ (i : ℕ). shifts i v) s
+tables-right w k m n whole e =
+    record {
+      entry =
+          λ j v place h.
+          let inside : w * j < w * k = omega arith in
+          let less : j < k = lt-of-mul-lt-mul-left w inside in
+          let d : ℕ = k - suc j in
+          let c : j + suc d ≡ k = omega arith in
+          let s : m + w * suc d ≡ n - w * j = omega (arith, mul-add w j (suc d), ap (λ (i : ℕ). w * i) c) in
+          table-at w k m d j v (shifts (1 + m) 1) [] refl c h ∙ ap (λ (i : ℕ). shifts i v) s;
+    }

@@ -7,7 +7,8 @@ ghost use lib.ListN.{length, take, drop};
 ghost use Rattle.crc.specs.Crc32.{shifts, step32, run32};
 ghost use Rattle.crc.specs.Tables.{Table};
 
-// What 4 k shifts make of x: its low k parts of four bits go by the last k tables, the highest part first, and `top`, what stands above them, comes down.
+// What 4 k shifts make of x: its low k parts of four bits go by the last k tables, and `top`, what stands above them, comes down.
+// The highest part goes first, so that those with the register in them, which are known last, come last.
 fn lookup(t: &[u32; 256], k: usize, top: u32, x: u64) -> u32
     requires { ⌜ (Table 4 64 (now t)) × (k ≤ 16) × (top ≡ x / 2 ^ (4 * k)) ⌝ }
     ensures { λ r. ⌜ r ≡ shifts (4 * k) x ⌝ }
