@@ -11,24 +11,29 @@ use native.Mathlib.Omega.{arith}
 use lib.Bits.{bitXor, xor-zero-r}
 use lib.ListN.{length, getD, List·getD-append}
 use lib.Seq.{getD-append-add}
+use Rattle.crc.specs.Crc8.{eightZeros}
 use Rattle.crc.specs.Crc32.{shift, shifts}
-use Rattle.crc.specs.Tables.{Table}
+use Rattle.crc.specs.Tables.{Table, Remainders}
 use Rattle.crc.specs.laws.Crc32.{shifts-add}
 use Rattle.crc.specs.laws.Xor.{bit-ind, odd-lt}
 use Rattle.crc.proofs.Braid.{shifts-zero}
 use Rattle.crc.proofs.Lookup.{by-parts}
 
 -- what f makes of n numbers, from k on
-abbrev pub values : (ℕ → ℕ) → ℕ → ℕ → List ℕ
+abbrev values : (ℕ → ℕ) → ℕ → ℕ → List ℕ
 values f k zero = []
 values f k (suc n) = f k ∷ values f (suc k) n
 
-pub value-at : (f : ℕ → ℕ) (k n v : ℕ) → v < n → getD (values f k n) v 0 ≡ f (k + v)
+value-at : (f : ℕ → ℕ) (k n v : ℕ) → v < n → getD (values f k n) v 0 ≡ f (k + v)
 value-at f k zero v h = absurd (omega arith)
 value-at f k (suc n) zero h = ap f (sym (add-zero k))
 value-at f k (suc n) (suc v) h =
     let e : suc k + v ≡ k + suc v = omega arith in
     value-at f (suc k) n v (omega arith) ∙ ap f e
+
+-- CRC-8's table
+pub remainders-right : Remainders (values eightZeros 0 256)
+remainders-right = record { entry = λ v h. value-at eightZeros 0 256 v h ∙ ap eightZeros (zero-add v) }
 
 -- each element of l, and then that with x added
 abbrev weave : ℕ → List ℕ → List ℕ
@@ -103,7 +108,7 @@ row-table w m x e = rw add-zero at (row-span w 0 m x {l = 0 ∷ []} e (record { 
     first (suc v) h = absurd (omega arith)
 
 -- k tables of w bits before l, the last of them from x
-abbrev pub tables : ℕ → ℕ → ℕ → List ℕ → List ℕ
+abbrev tables : ℕ → ℕ → ℕ → List ℕ → List ℕ
 tables w zero x l = l
 tables w (suc k) x l = tables w k (shifts w x) (table w x ++ l)
 

@@ -9,7 +9,7 @@ ghost use Rattle.crc.specs.Blank.{blank};
 ghost use Rattle.crc.specs.Crc32.{run32};
 ghost use Rattle.crc.specs.Tables.{Table};
 
-// The register after the bytes of s, from c. The lanes' tables are worth their writing out from some 256 bytes on.
+// The register after the bytes of s, from c. Below 384 bytes the lanes save less time than the writing out of their tables takes.
 fn run(t: &[u32; 256], c: u32, s: &[u8]) -> u32
     requires { ⌜ Table 4 64 (now t) ⌝ }
     ensures { λ r. ⌜ r ≡ run32 c (now (s .entry)) ⌝ }
