@@ -4,8 +4,8 @@
 use Prim.Native.Nat.{ℕ, suc, _+_, _-_, _*_, _/_, _%_, _^_, _<_}
 use mathlib.Core.List.{List}
 use mathlib.Core.Path.{_≡_, sym, ap, ap₂, _∙_}
-use native.Mathlib.Nat.{mod-lt, mul-zero, mul-suc, div-one}
-use lib.Bits.{bitXor, xor-shifted}
+use native.Mathlib.Nat.{mod-lt, mul-zero, mul-suc, div-one, div-eq-of-lt}
+use lib.Bits.{bitXor, xor-lt, xor-shifted}
 use lib.ListN.{getD}
 use lib.Pow.{pow-pos, shr-shr, split}
 use Rattle.crc.specs.Crc32.{shifts}
@@ -32,3 +32,7 @@ lookup-turn {w} {n} T x i j q m r next more place told =
 -- from the lowest part on a number is whole
 pub whole : (w x j : ℕ) → j ≡ 0 → x / 2 ^ (w * j) ≡ x
 whole w x j e = ap (λ (i : ℕ). x / 2 ^ (w * i)) e ∙ ap (λ (i : ℕ). x / 2 ^ i) (mul-zero w) ∙ div-one x
+
+-- nothing stands above two numbers of n bits
+pub none-above : (n a b : ℕ) → a < 2 ^ n → b < 2 ^ n → 0 ≡ bitXor a b / 2 ^ n
+none-above n a b ha hb = sym (div-eq-of-lt (xor-lt n a b ha hb))

@@ -42,6 +42,12 @@ run-part c s i n h o =
     run-word (take n (drop i s)) (octets-take n (drop i s) (octets-drop i s o)) c
     ∙ ap (λ (k : ℕ). shifts (8 * k) (bitXor c (little (take n (drop i s))))) e
 
+-- n bytes from i on that spell w
+pub run-spelled : (c : ℕ) (s : List ℕ) (i n w r : ℕ) → i + n ≤ length s → Octets s → w ≡ little (take n (drop i s)) → r ≡ shifts (8 * n) (bitXor c w)
+    → r ≡ run32 c (take n (drop i s))
+run-spelled c s i n w r h o spelled told =
+    told ∙ ap (λ (x : ℕ). shifts (8 * n) (bitXor c x)) spelled ∙ sym (run-part c s i n h o)
+
 -- the number that eight bytes spell from i on
 abbrev pub at8 : List ℕ → ℕ → ℕ
 at8 s i = little (take 8 (drop i s))

@@ -1,14 +1,10 @@
--- `crc::words::word` meets its contract. Eight bytes may be added all at once (`run-part`), and nothing stands above sixteen parts of four bits.
+-- `crc::words::word` meets its contract. Eight bytes may be added all at once (`run-spelled`), and nothing stands above them and the register.
 -- Assumes nothing.
 use borrow.Author.Needs.{needs}
-use native.Mathlib.Nat.{div-eq-of-lt}
 use native.Mathlib.Omega.{arith}
-use mathlib.Core.Path.{sym, ap, _∙_}
 use denote.Ref.{now}
-use Prim.Native.Nat.{ℕ}
-use lib.Bits.{bitXor, xor-lt}
-use Rattle.crc.specs.Crc32.{shifts}
-use Rattle.crc.proofs.Runs.{run-part}
+use Rattle.crc.proofs.Lookup.{none-above}
+use Rattle.crc.proofs.Runs.{run-spelled}
 use Rattle.crc.proofs.words.word.Statement.{statement}
 use Rattle.crc.proofs.words.word.Tie as tie
 
@@ -16,16 +12,13 @@ load8-requires : tie.Need-load8-requires
 load8-requires c κs = search needs
 
 lookup-requires : tie.Need-lookup-requires
-lookup-requires c κs =
-    let start = c .before .before in
-    (start .pre .0, omega arith, sym (div-eq-of-lt (xor-lt 64 (start .args .c) (c .load8 .result) (omega arith) (omega arith))))
+lookup-requires c κs = (c .before .before .pre .0, omega arith, none-above 64 (c .before .before .args .c) (c .load8 .result) (omega arith) (omega arith))
 
 returns : tie.Need-returns
 returns c =
     let start = c .before .before .before in
-    let s = now (start .args .s) in
-    c .lookup .ensures ∙ ap (λ (w : ℕ). shifts 64 (bitXor (start .args .c) w)) (c .before .load8 .ensures)
-    ∙ sym (run-part (start .args .c) s (start .args .i) 8 (start .pre .1) (λ k. omega (arith, c .before .before .shared-slice-known .given k)))
+    run-spelled (start .args .c) (now (start .args .s)) (start .args .i) 8 (c .before .load8 .result) (c .lookup .result) (start .pre .1)
+    (λ k. omega (arith, c .before .before .shared-slice-known .given k)) (c .before .load8 .ensures) (c .lookup .ensures)
 
 pub word-spec : {M : Type 1} → statement M
 word-spec = tie.close (tie.spec load8-requires lookup-requires returns)
