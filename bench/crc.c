@@ -93,10 +93,11 @@ int main(void) {
     }
     make_table();
     check(s + 1);
-    static const size_t sizes[] = {16, 64, 255, 256, 512, 1024, 4096, 16384, 65536};
+    static const size_t sizes[] = {16, 64, 224, 383, 384, 512, 1024, 4096, 16384, 65536};
     for (size_t k = 0; k < sizeof sizes / sizeof sizes[0]; k++) {
         compare("crc32", "zlib's time", time_crc32, time_zlib_crc32, s, sizes[k]);
     }
+    compare("crc32_field_as_zero", "zlib's time", time_field_as_zero, time_zlib_crc32, s, 224);
     compare("crc32_field_as_zero", "zlib's time", time_field_as_zero, time_zlib_crc32, s, LONGEST);
     compare("crc8", "a C table loop's time", time_crc8, time_table_crc8, s, 16);
     compare("crc8", "a C table loop's time", time_crc8, time_table_crc8, s, 64);

@@ -75,6 +75,13 @@ static size_t many_items(uint8_t *image) {
 
 // ---- boards ----
 
+// Eight kinds of structures without records, and one that no list has.
+enum { KINDS = 9 };
+static const char *const kinds[KINDS] = {"$AcpiTbl", "$FPGAnfo", "$HdCodec", "$Logo$", "$MemCnfg", "$MacInfo", "$uCode$", "$Video$", "$Fan"};
+
+// So many GPIO records fill an image, with an empty structure behind them.
+enum { MOST_RECORDS = (LONGEST - FIRST - 0x20 - 0x10) / 0x30 };
+
 static void put32(uint8_t *at, uint32_t n) {
     for (int i = 0; i < 4; i++) {
         at[i] = (uint8_t)(n >> (8 * i));
@@ -90,9 +97,9 @@ static uint8_t *head(uint8_t *at, const char *signature, size_t length) {
     return at;
 }
 
-// Header, map of one record, and board: the rest of the image is to be filled from FIRST on.
-static void begin(uint8_t *image) {
-    put32(head(image, "$Eeprom$", HEADER_SIZE) + 0x10, LONGEST);
+// Header, map of one record, and board, for an image of this length: the rest is to be filled from FIRST on.
+static void begin(uint8_t *image, size_t length) {
+    put32(head(image, "$Eeprom$", HEADER_SIZE) + 0x10, (uint32_t)length);
     uint8_t *map = head(image + HEADER_SIZE, "$EeprMap", MAP_SIZE);
     memcpy(map + 0x10, "rig$", 4);
     put32(map + 0x20, LONGEST);
@@ -102,65 +109,132 @@ static void begin(uint8_t *image) {
     head(image + HEADER_SIZE + MAP_SIZE, "$BrdInfo", INFO_SIZE);
 }
 
-// The check over the whole image, its own field counted as zero; the image's length.
-static size_t finish(uint8_t *image) {
+// The check over the first bytes of the image, its own field counted as zero; the image's length.
+static size_t finish(uint8_t *image, size_t covered, size_t length) {
     put32(image + 0x14, 0);
-    put32(image + 0x18, LONGEST);
-    put32(image + 0x14, (uint32_t)crc32(0, image, LONGEST));
-    return LONGEST;
+    put32(image + 0x18, (uint32_t)covered);
+    put32(image + 0x14, (uint32_t)crc32(0, image, (uInt)covered));
+    return length;
 }
 
-// One structure that fills the image.
-static size_t one_logo(uint8_t *image) {
-    begin(image);
-    uint8_t *logo = head(image + FIRST, "$Logo$", LONGEST - FIRST);
-    for (size_t i = 0x20; i < LONGEST - FIRST; i++) {
-        logo[i] = (uint8_t)(i * 7 + i / 251);
-    }
-    return finish(image);
-}
-
-// 64 structures of 1,024 bytes after the board structure, of eight known kinds and one that no list has, in turn; the last one is shorter.
-static size_t many_kinds(uint8_t *image) {
-    static const char *const kinds[] = {"$AcpiTbl", "$FPGAnfo", "$HdCodec", "$Logo$", "$MemCnfg", "$MacInfo", "$uCode$", "$Video$", "$Fan"};
-    begin(image);
-    size_t at = FIRST;
-    for (int k = 0; at < LONGEST; k++) {
-        size_t n = LONGEST - at < 1024 ? LONGEST - at : 1024;
-        head(image + at, kinds[k % 9], n);
-        at += n;
-    }
-    return finish(image);
-}
-
-// One structure of GPIO records, each with a label; an empty structure fills what is left.
-static size_t gpio_records(uint8_t *image) {
-    begin(image);
-    size_t n = (LONGEST - FIRST - 0x20 - 0x10) / 0x30, length = 0x20 + n * 0x30;
-    uint8_t *gpio = head(image + FIRST, "$GpioDat", length);
-    for (size_t i = 0; i < n; i++) {
+// A structure of so many GPIO records, each with a label; the place after it.
+static size_t add_gpio(uint8_t *image, size_t at, size_t records) {
+    uint8_t *gpio = head(image + at, "$GpioDat", 0x20 + records * 0x30);
+    for (size_t i = 0; i < records; i++) {
         uint8_t *record = gpio + 0x20 + i * 0x30;
         memcpy(record, "sixteen letters.", 16);
         put32(record + 0x10, 0x30);
         record[0x20] = 4;
     }
-    size_t end = FIRST + length;
+    return at + 0x20 + records * 0x30;
+}
+
+// Header, map and board alone: 224 bytes.
+static size_t small_board(uint8_t *image) {
+    begin(image, FIRST);
+    return finish(image, FIRST, FIRST);
+}
+
+// Each kind of structure once, of 160 bytes, GPIO data of eight records, one that no list has, and a signature structure with a hash of 32 bytes.
+static size_t every_kind(uint8_t *image) {
+    size_t at = add_gpio(image, FIRST, 8);
+    for (size_t k = 0; k < KINDS; k++) {
+        head(image + at, kinds[k], 0xA0);
+        at += 0xA0;
+    }
+    head(image + at, "$PromSig", 0x40)[0x10] = 3;
+    begin(image, at + 0x40);
+    return finish(image, at + 0x20, at + 0x40);
+}
+
+// One structure that fills the image.
+static size_t one_logo(uint8_t *image) {
+    begin(image, LONGEST);
+    uint8_t *logo = head(image + FIRST, "$Logo$", LONGEST - FIRST);
+    for (size_t i = 0x20; i < LONGEST - FIRST; i++) {
+        logo[i] = (uint8_t)(i * 7 + i / 251);
+    }
+    return finish(image, LONGEST, LONGEST);
+}
+
+// 64 structures of 1,024 bytes after the board structure, of eight known kinds and one that no list has, in turn; the last one is shorter.
+static size_t many_kinds(uint8_t *image) {
+    begin(image, LONGEST);
+    size_t at = FIRST;
+    for (int k = 0; at < LONGEST; k++) {
+        size_t n = LONGEST - at < 1024 ? LONGEST - at : 1024;
+        head(image + at, kinds[k % KINDS], n);
+        at += n;
+    }
+    return finish(image, LONGEST, LONGEST);
+}
+
+// One structure of GPIO records; an empty structure fills what is left.
+static size_t gpio_records(uint8_t *image) {
+    begin(image, LONGEST);
+    size_t end = add_gpio(image, FIRST, MOST_RECORDS);
     if (end < LONGEST) head(image + end, "$Fan", LONGEST - end);
-    return finish(image);
+    return finish(image, LONGEST, LONGEST);
 }
 
 // Heads and nothing else: 4,082 structures of 16 bytes.
 static size_t only_heads(uint8_t *image) {
-    begin(image);
+    begin(image, LONGEST);
     for (size_t at = FIRST; at < LONGEST; at += 0x10) {
         head(image + at, "$Fan", 0x10);
     }
-    return finish(image);
+    return finish(image, LONGEST, LONGEST);
 }
 
-const Maker makers[IMAGES] = {{"typical chip", TINY, typical_chip},
-                              {"chip of many items", TINY, many_items},
-                              {"one large structure", BOARD, one_logo},
-                              {"64 structures", BOARD, many_kinds},
-                              {"1,359 GPIO records", BOARD, gpio_records},
-                              {"4,082 empty structures", BOARD, only_heads}};
+// ---- refused ones: one byte of an image that is accepted is changed, and where the rule comes after the check, the check is worked out again ----
+
+static size_t bad_check_byte(uint8_t *image) {
+    size_t n = many_items(image);
+    image[n - 1] ^= 1;
+    return n;
+}
+
+static size_t bad_batch(uint8_t *image) {
+    size_t n = many_items(image);
+    image[3 + 2 + 7 + 7 + 7 + 9 + 8] = 0x28; // the high byte of the last identity's batch
+    return seal(image, n - 1);
+}
+
+static size_t zeros_behind(uint8_t *image) {
+    begin(image, LONGEST);
+    memset(image + FIRST, 0, LONGEST - FIRST);
+    return finish(image, LONGEST, LONGEST);
+}
+
+static size_t last_unmarked(uint8_t *image) {
+    only_heads(image);
+    image[LONGEST - 0x10] = 0;
+    return finish(image, LONGEST, LONGEST);
+}
+
+static size_t bad_crc32(uint8_t *image) {
+    gpio_records(image);
+    image[0x14] ^= 1;
+    return LONGEST;
+}
+
+static size_t bad_last_record(uint8_t *image) {
+    gpio_records(image);
+    image[FIRST + 0x20 + (MOST_RECORDS - 1) * 0x30 + 0x20] = 3; // DataSize
+    return finish(image, LONGEST, LONGEST);
+}
+
+const Maker makers[IMAGES] = {{"typical chip", TINY, typical_chip, 0},
+                              {"chip of many items", TINY, many_items, 0},
+                              {"small board", BOARD, small_board, 0},
+                              {"board of every kind", BOARD, every_kind, 0},
+                              {"one large structure", BOARD, one_logo, 0},
+                              {"64 structures", BOARD, many_kinds, 0},
+                              {"1,359 GPIO records", BOARD, gpio_records, 0},
+                              {"4,082 empty structures", BOARD, only_heads, 0},
+                              {"many items, check", TINY, bad_check_byte, 5},
+                              {"many items, a batch", TINY, bad_batch, 11},
+                              {"zeros after the board", BOARD, zeros_behind, 23},
+                              {"last of 4,082 heads", BOARD, last_unmarked, 23},
+                              {"GPIO records, check", BOARD, bad_crc32, 27},
+                              {"last GPIO record", BOARD, bad_last_record, 33}};

@@ -109,9 +109,13 @@ static void check_name(const char *image, const Lent *ours, const Lent *theirs) 
 }
 
 // Both have the same image, and each its own list and name. The last step answers with the last item's place, the one past it with bit 40.
-static void check(const char *image, const Lent *ours, const Lent *theirs) {
+static void check(const char *image, unsigned refusal, const Lent *ours, const Lent *theirs) {
     uint64_t count = our_judge(ours);
     expect(image, "our judgement", count, their_judge(theirs));
+    if (refusal) {
+        expect(image, "the number of the refusal", chip_refusal(count), refusal);
+        return;
+    }
     expect_accepted(image, "the image", count);
     expect(image, "our list", our_list(ours), count);
     expect(image, "their list", their_list(theirs), count);
@@ -128,28 +132,31 @@ static void check(const char *image, const Lent *ours, const Lent *theirs) {
 static const struct {
     const char *name;
     Call ours, theirs;
-    bool boards; // for boards too
-} rows[] = {{"judge", our_judge, their_judge, true},
-            {"list", our_list, their_list, true},
-            {"walk", our_walk, their_walk, true},
-            {"name", our_name, their_name, false}};
+    bool boards, refused; // for boards too, for refused images too
+} rows[] = {{"judge", our_judge, their_judge, true, true},
+            {"list", our_list, their_list, true, false},
+            {"walk", our_walk, their_walk, true, false},
+            {"name", our_name, their_name, false, false}};
 
 static void head_of_table(void) {
     printf("\nOurs against an independent implementation in safe Rust, and against one pass of zlib's crc32 over the same bytes; the answers are the same.\n"
            "ns: CPU time of one call of ours, the median of %d rounds, in which the three take turns. ratio: 1.20 means that ours takes 1.20 times as long;\n"
-           "the median and the worst of the rounds.\n\n"
-           "                                                            ratio to independent      ratio to zlib\n"
-           "image                    bytes   items   call          ns      median     worst      median     worst\n",
+           "the median and the worst of the rounds. A refused image has the refusal's number behind the call.\n\n"
+           "                                                                ratio to independent      ratio to zlib\n"
+           "image                    bytes   items   call              ns      median     worst      median     worst\n",
            ROUNDS);
 }
 
-static void time_image(const char *image, const Lent *lent) {
+static void time_image(const Maker *maker, const Lent *lent) {
     for (size_t i = 0; i < sizeof rows / sizeof rows[0]; i++) {
         if (lent->format == BOARD && !rows[i].boards) continue;
+        if (maker->refusal && !rows[i].refused) continue;
+        char call[16];
+        snprintf(call, sizeof call, maker->refusal ? "%s: %u" : "%s", rows[i].name, maker->refusal);
         Timed timed[] = {{.call = rows[i].ours}, {.call = rows[i].theirs}, {.call = zlib_crc32}};
         take_turns(timed, 3, lent);
         Spread ours = spread(timed[0].ns), independent = ratio(&timed[0], &timed[1]), zlib = ratio(&timed[0], &timed[2]);
-        printf("%-24s %5zu   %5zu   %-5s  %9.0f  %10.2f%10.2f  %10.2f%10.2f\n", image, lent->bytes, lent->items, rows[i].name, ours.median,
+        printf("%-24s %5zu   %5zu   %-9s  %9.0f  %10.2f%10.2f  %10.2f%10.2f\n", maker->name, lent->bytes, lent->items, call, ours.median,
                independent.median, independent.worst, zlib.median, zlib.worst);
     }
 }
@@ -162,16 +169,16 @@ int main(void) {
     for (size_t k = 0; k < IMAGES; k++) {
         size_t n = makers[k].make(images[k]);
         Lent ours = {makers[k].format, images[k], n, 0, lists[0], names[0]};
-        ours.items = chip_value(our_judge(&ours));
+        ours.items = makers[k].refusal ? 0 : chip_value(our_judge(&ours));
         Lent theirs = ours;
         theirs.list = lists[1];
         theirs.name = names[1];
-        check(makers[k].name, &ours, &theirs);
+        check(makers[k].name, makers[k].refusal, &ours, &theirs);
         lent[k] = ours;
     }
     head_of_table();
     for (size_t k = 0; k < IMAGES; k++) {
-        time_image(makers[k].name, &lent[k]);
+        time_image(&makers[k], &lent[k]);
     }
     return 0;
 }
