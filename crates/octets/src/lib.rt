@@ -2,8 +2,10 @@
 // Every function is total: a byte past the end of the image reads as 0, so that no caller owes a bound.
 use chain::Found;
 ghost use mathlib.Core.Path.{_≡_};
-ghost use Prim.Native.Nat.{_+_, _<_};
+ghost use Prim.Native.Nat.{_+_, _≤_, _<_};
+ghost use mathlib.Core.Bool.{true};
 ghost use lib.ListN.{length};
+ghost use Rattle.chain.specs.declared.Found.{Found};
 ghost use Rattle.octets.specs.Bytes.{byte, le16, le32, le64};
 ghost use Rattle.octets.specs.Put.{put};
 ghost use Rattle.octets.specs.Runs.{sixAt, eightAt, sixteenAt, difference, sameRun, nonzero};
@@ -98,6 +100,25 @@ pub fn le16_at(s: &[u8], at: usize) -> u16
     low + 256 * high
 }
 
+// The little-endian number of four bytes within the image, which the compiler makes one load.
+fn le32_within(s: &[u8], at: usize) -> u32
+    requires { ⌜ at + 4 ≤ length (now s) ⌝ }
+    ensures { λ r. ⌜ r ≡ le32 (now (s .entry)) at ⌝ }
+{
+    within(s, at)
+        + within(s, at + 1) * 256
+        + within(s, at + 2) * 65536
+        + within(s, at + 3) * 16777216
+}
+
+// The little-endian number of eight bytes within the image, which is one load too.
+fn le64_within(s: &[u8], at: usize) -> u64
+    requires { ⌜ at + 8 ≤ length (now s) ⌝ }
+    ensures { λ r. ⌜ r ≡ le64 (now (s .entry)) at ⌝ }
+{
+    le32_within(s, at) as u64 + le32_within(s, at + 4) as u64 * 4294967296
+}
+
 // The little-endian number of four bytes. The compiler makes one load of four that lie within, unless both ways begin with the same byte; so
 // the other way, at the end of the image, begins with the high half.
 pub fn le32_at(s: &[u8], at: usize) -> u32
@@ -105,10 +126,7 @@ pub fn le32_at(s: &[u8], at: usize) -> u32
 {
     if at < s.len() {
         if 4 <= s.len() - at {
-            return within(s, at)
-                + within(s, at + 1) * 256
-                + within(s, at + 2) * 65536
-                + within(s, at + 3) * 16777216;
+            return le32_within(s, at);
         }
         let high = le16_at(s, at + 2) as u32;
         return le16_at(s, at) as u32 + high * 65536;
@@ -121,6 +139,9 @@ pub fn le64_at(s: &[u8], at: usize) -> u64
     ensures { λ r. ⌜ r ≡ le64 (now (s .entry)) at ⌝ }
 {
     if at < s.len() {
+        if 8 <= s.len() - at {
+            return le64_within(s, at);
+        }
         return le32_at(s, at) as u64 + le32_at(s, at + 4) as u64 * 4294967296;
     }
     0
@@ -204,10 +225,32 @@ pub fn same_run(a: &[u8], p: usize, b: &[u8], q: usize, n: usize) -> bool
     }
 }
 
+// Whether a run of eight to sixteen bytes within the image is zero, in two loads: of its first eight bytes and its last eight, which may overlap.
+// Of any other run it tells nothing.
+fn zero_run(s: &[u8], at: usize, from: usize, to: usize) -> bool
+    ensures { λ r. ⌜ (r ≡ true → nonzero (now (s .entry)) at from to ≡ Found.Nothing) ⌝ }
+{
+    if at < s.len() {
+        if to <= s.len() - at {
+            if 8 <= to {
+                if from <= to - 8 {
+                    if to - from <= 16 {
+                        return le64_within(s, at + from) == 0 && le64_within(s, at + to - 8) == 0;
+                    }
+                }
+            }
+        }
+    }
+    false
+}
+
 // The first byte that is not zero, of those from `from` up to `to` places after `at`.
 pub fn first_nonzero(s: &[u8], at: usize, from: usize, to: usize) -> Found
     ensures { λ r. ⌜ r ≡ nonzero (now (s .entry)) at from to ⌝ }
 {
+    if zero_run(s, at, from, to) {
+        return Found::Nothing;
+    }
     let mut i = from;
     while i < to {
         if byte_from(s, at, i) != 0 {

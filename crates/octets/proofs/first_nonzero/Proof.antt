@@ -1,5 +1,5 @@
--- `first_nonzero` meets its contract. The loop's invariant: the first byte that is not zero from i on is the first of all.
--- A byte that is not zero lies within the image, so its place fits. Assumes nothing.
+-- `first_nonzero` meets its contract: by `zero_run` where that tells that there is none, and else by the loop. Its invariant:
+-- the first byte that is not zero from i on is the first of all. A byte that is not zero lies within the image, so its place fits. Assumes nothing.
 use Prim.Native.Nat.{_+_, _-_}
 use mathlib.Core.Path.{_≡_, refl, sym, _∙_}
 use native.Mathlib.Omega.{arith}
@@ -18,6 +18,12 @@ Inv-loop s at from to i₀ i = search (λ j. when (isSet s at j) (at + j)) (ahea
 abbrev μ-loop : tie.MeasureT-loop
 μ-loop s at from to i₀ i = to - i
 
+zero-run-requires : tie.Need-zero-run-requires Inv-loop μ-loop
+zero-run-requires c κs = omega arith
+
+returns : tie.Need-returns Inv-loop μ-loop
+returns c = sym (c .before .zero-run .ensures (c .if1 .taken))
+
 loop-holds : tie.Need-loop-holds Inv-loop μ-loop
 unfolding nonzero
 loop-holds c = refl
@@ -25,11 +31,11 @@ loop-holds c = refl
 byte-from-requires : tie.Need-byte-from-requires Inv-loop μ-loop
 byte-from-requires c κs = omega arith
 
-add-t8 : tie.Need-add-t8 Inv-loop μ-loop
-add-t8 c = let a = c .before .before .before .before .before .args in omega (arith, byte-within (a .s .now) (a .at + c .before .before .before .loop .i) (omega (arith, c .if1 .taken, c .before .byte-from .ensures)))
+add-t9 : tie.Need-add-t9 Inv-loop μ-loop
+add-t9 c = let a = c .before .before .before .before .before .before .before .args in omega (arith, byte-within (a .s .now) (a .at + c .before .before .before .loop .i) (omega (arith, c .if2 .taken, c .before .byte-from .ensures)))
 
-returns : tie.Need-returns Inv-loop μ-loop
-returns c = hit _ _ _ one-grows _ _ (c .before .before .loop-test .taken) (rw (ne-eqb _ _ (λ e. c .if1 .taken (c .before .byte-from .ensures ∙ e)))) (c .before .before .before .loop .inv)
+returns-2 : tie.Need-returns-2 Inv-loop μ-loop
+returns-2 c = hit _ _ _ one-grows _ _ (c .before .before .loop-test .taken) (rw (ne-eqb _ _ (λ e. c .if2 .taken (c .before .byte-from .ensures ∙ e)))) (c .before .before .before .loop .inv)
 
 add-i : tie.Need-add-i Inv-loop μ-loop
 add-i c = omega arith
@@ -38,10 +44,10 @@ loop-less : tie.Need-loop-less Inv-loop μ-loop
 loop-less c = omega arith
 
 loop-again : tie.Need-loop-again Inv-loop μ-loop
-loop-again c = turn _ _ _ one-grows _ _ (c .before .before .loop-test .taken) (rw (eq-eqb _ _ (sym (c .before .byte-from .ensures) ∙ c .if1 .left))) refl (c .before .before .before .loop .inv)
+loop-again c = turn _ _ _ one-grows _ _ (c .before .before .loop-test .taken) (rw (eq-eqb _ _ (sym (c .before .byte-from .ensures) ∙ c .if2 .left))) refl (c .before .before .before .loop .inv)
 
-returns-2 : tie.Need-returns-2 Inv-loop μ-loop
-returns-2 c = done _ _ _ one-grows _ (c .loop-test .left) (c .before .loop .inv)
+returns-3 : tie.Need-returns-3 Inv-loop μ-loop
+returns-3 c = done _ _ _ one-grows _ (c .loop-test .left) (c .before .loop .inv)
 
 pub first-nonzero-spec : {M : Type 1} → statement M
 first-nonzero-spec =
@@ -49,11 +55,13 @@ first-nonzero-spec =
     (tie.spec
     Inv-loop
     μ-loop
+    zero-run-requires
+    returns
     loop-holds
     byte-from-requires
-    add-t8
-    returns
+    add-t9
+    returns-2
     add-i
     loop-less
     loop-again
-    returns-2)
+    returns-3)

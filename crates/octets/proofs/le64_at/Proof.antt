@@ -1,10 +1,20 @@
--- `le64_at` meets its contract: the two halves make up the number (`le64-halves`), and past the end it is 0. Assumes nothing.
+-- `le64_at` meets its contract: eight bytes within are the number, at the end its two halves make it up (`le64-halves`), and past the end it is 0.
+-- Assumes nothing.
 use mathlib.Core.Path.{sym}
 use native.Mathlib.Omega.{arith}
-use borrow.Author.Needs.{needs}
 use Rattle.octets.specs.laws.Bytes.{le64-halves, le64-past}
+use borrow.Author.Needs.{needs}
 use Rattle.octets.proofs.le64_at.Statement.{statement}
 use Rattle.octets.proofs.le64_at.Tie as tie
+
+sub-if2 : tie.Need-sub-if2
+sub-if2 c = search needs
+
+le64-within-requires : tie.Need-le64-within-requires
+le64-within-requires c κs = search needs
+
+returns : tie.Need-returns
+returns c = search needs
 
 le32-at-requires : tie.Need-le32-at-requires
 le32-at-requires c κs = search needs
@@ -27,16 +37,19 @@ mul-result c = search needs
 add-result : tie.Need-add-result
 add-result c = search needs
 
-returns : tie.Need-returns
-returns c = let a = c .before .before .before .before .args in omega (arith, le64-halves (a .s .now) (a .at))
-
 returns-2 : tie.Need-returns-2
-returns-2 c = let a = c .before .before .args in sym (le64-past (a .s .now) (a .at) (c .if1 .left))
+returns-2 c = let a = c .before .before .before .before .before .args in omega (arith, le64-halves (a .s .now) (a .at))
+
+returns-3 : tie.Need-returns-3
+returns-3 c = let a = c .before .before .args in sym (le64-past (a .s .now) (a .at) (c .if1 .left))
 
 pub le64-at-spec : {M : Type 1} → statement M
 le64-at-spec =
     tie.close
     (tie.spec
+    sub-if2
+    le64-within-requires
+    returns
     le32-at-requires
     cast-result
     add-le32-at
@@ -44,5 +57,5 @@ le64-at-spec =
     cast-result-2
     mul-result
     add-result
-    returns
-    returns-2)
+    returns-2
+    returns-3)

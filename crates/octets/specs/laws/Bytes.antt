@@ -86,6 +86,12 @@ little-below [] h = omega arith
 little-below (b ∷ bs) h =
     omega (arith, h zero, little-below bs (λ p. h (suc p)), pow-suc 256 (length bs))
 
+-- bytes that spell 0 are zero
+little-zero : (l : List ℕ) → little l ≡ 0 → (i : ℕ) → byte l i ≡ 0
+little-zero [] e i = refl
+little-zero (b ∷ bs) e zero = omega arith
+little-zero (b ∷ bs) e (suc i) = little-zero bs (omega arith) i
+
 -- the number of the bytes a and then b
 little-append : (a b : List ℕ) → little (a ++ b) ≡ little a + 256 ^ length a * little b
 little-append [] b = omega arith
@@ -119,6 +125,11 @@ module _ (s : List ℕ) (p : ℕ) where
   pub le64-past : length s ≤ p → le64 s p ≡ 0
   unfolding le64
   le64-past h = run-past h 8
+
+  -- where a number is 0, so are its bytes
+  pub le64-zero : le64 s p ≡ 0 → (i : ℕ) → i < 8 → byte s (p + i) ≡ 0
+  unfolding le64
+  le64-zero e i h = sym (byte-run s p 8 i h) ∙ little-zero (run s p 8) e i
 
 module _ (s : List ℕ) (octets : Octets s) (p : ℕ) where
   run-below : (n : ℕ) → little (run s p n) < 256 ^ n

@@ -1,18 +1,23 @@
 -- Where the text of a label ends, and what its bytes are before, at and after that. Assumes nothing.
 use Prim.Native.Nat.{ℕ, _+_, _-_, _≤_, _<_}
-use mathlib.Core.Bool.{Bool, true, false, not, _&&_}
+use mathlib.Core.Bool.{Bool, true, false, not, _&&_, and-true}
 use mathlib.Core.List.{List}
 use mathlib.Core.Logic.{_⊎_, inl, inr}
-use mathlib.Core.Path.{_≡_, refl, ap, subst}
+use mathlib.Core.Path.{_≡_, refl, sym, ap, subst, _∙_}
 use native.Mathlib.Omega.{arith}
 use lib.Dec.{eqb, leb}
 use lib.ListN.{length}
 use borrow.Author.Tests.{leb-true, not-false, not-true}
+use Rattle.chain.specs.Chain.{ahead}
+use Rattle.chain.specs.First.{orElse, when, search}
+use Rattle.chain.specs.declared.Found.{Found}
 use Rattle.chain.specs.declared.Found.the-variants.{At, Nothing}
 use Rattle.chain.specs.laws.Below.{below}
+use Rattle.chain.specs.laws.Loops.{one-grows, search-end, search-more}
 use Rattle.chain.specs.laws.Ranges.{Least, range-least, range-none, least-range, none-range}
 use Rattle.octets.specs.Bytes.{byte, run}
 use Rattle.octets.specs.Label.{isText, isLabelText, dollar, noText, textEnd}
+use Rattle.octets.specs.Runs.{isNothing}
 use Rattle.octets.specs.laws.Bytes.{byte-within, byte-run}
 
 -- '$' is no text
@@ -79,3 +84,19 @@ module _ (s : List ℕ) (p : ℕ) where
           let b = byte s (p + (i - 1)) in
           omega (arith, byte-within s (p + (i - 1)) (text-nonzero b (text-before i e (i - 1) (omega arith))))
       go (inr j) = omega arith
+
+  -- ---- a loop over the sixteen bytes: whether they are text up to i, and whether the text ends from i on
+  abbrev pub textFrom : ℕ → Found
+  textFrom = search (λ i. when (noText s p i) i) (ahead 1) 16
+
+  text-more : (here : Bool) (i : ℕ) → i < 16 → isLabelText (byte s (p + i)) ≡ here → textFrom i ≡ orElse (when (not here) i) (textFrom (i + 1))
+  text-more here i h e = search-more (λ j. when (noText s p j) j) (ahead 1) 16 one-grows i h ∙ rw e
+
+  pub full-turn : (all here : Bool) (i : ℕ) {r : Bool} → i < 16 → isLabelText (byte s (p + i)) ≡ here → all && isNothing (textFrom i) ≡ r → all && here && isNothing (textFrom (i + 1)) ≡ r
+  full-turn true true i h e inv = sym (ap isNothing (text-more true i h e)) ∙ inv
+  full-turn true false i h e inv = sym (ap isNothing (text-more false i h e)) ∙ inv
+  full-turn false here i h e inv = inv
+
+  pub full-done : (all : Bool) (i : ℕ) {r : Bool} → 16 ≤ i → all && isNothing (textFrom i) ≡ r → all ≡ r
+  full-done all i h inv =
+      sym (and-true all) ∙ ap (λ (f : Found). all && isNothing f) (sym (search-end (λ j. when (noText s p j) j) (ahead 1) 16 one-grows i h)) ∙ inv

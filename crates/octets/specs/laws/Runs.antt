@@ -1,19 +1,21 @@
 -- Sixteen bytes as a list, what a comparison of two runs tells, and a search for a byte that is not zero. Assumes nothing.
-use Prim.Native.Nat.{ℕ, _+_, _≤_, _<_}
+use Prim.Native.Nat.{ℕ, _+_, _-_, _≤_, _<_}
 use mathlib.Core.Bool.{true, not}
 use mathlib.Core.List.{List}
+use mathlib.Core.Logic.{inl, inr}
 use mathlib.Core.Path.{_≡_, refl, sym, ap, _∙_}
 use native.Mathlib.Omega.{arith}
 use borrow.Author.Tests.{eq-eqb, eqb-true, not-false}
 use Rattle.chain.specs.declared.Found.{Found}
 use Rattle.chain.specs.declared.Found.the-variants.{At, Nothing}
 use Rattle.chain.specs.Fill.{tab}
+use Rattle.chain.specs.laws.Below.{below}
 use Rattle.chain.specs.laws.Fill.{tab-agree}
 use Rattle.chain.specs.laws.Ranges.{Least, range-least, range-none, none-range}
-use Rattle.octets.specs.Bytes.{byte, run}
+use Rattle.octets.specs.Bytes.{byte, run, le64}
 use Rattle.octets.specs.Runs.{sixteen, sixteenAt, sixteenBytes, apart, difference, isNothing, sameRun, isSet, nonzero}
 use Rattle.octets.specs.declared.Sixteen.{Sixteen}
-use Rattle.octets.specs.laws.Bytes.{byte-run}
+use Rattle.octets.specs.laws.Bytes.{byte-run, le64-zero}
 
 -- sixteen bytes as a list, and back
 pub sixteen-bytes : (x : Sixteen) → sixteen (sixteenBytes x) ≡ x
@@ -23,6 +25,10 @@ sixteen-bytes x = refl
 pub bytes-sixteen : (s : List ℕ) (p : ℕ) → sixteenBytes (sixteenAt s p) ≡ run s p 16
 unfolding sixteenAt tab
 bytes-sixteen s p = refl
+
+pub is-nothing : (f : Found) → isNothing f ≡ true → f ≡ Nothing
+is-nothing (At i) e = cc
+is-nothing Nothing e = refl
 
 module _ (a : List ℕ) (p : ℕ) (b : List ℕ) (q n : ℕ) where
   pub difference-least : (i : ℕ) → difference a p b q n ≡ At i → Least (apart a p b q) (λ j. j) 0 n i
@@ -34,11 +40,7 @@ module _ (a : List ℕ) (p : ℕ) (b : List ℕ) (q n : ℕ) where
   unfolding sameRun difference
   same-is-equal e =
       tab-agree (λ i. byte a (p + i)) (λ i. byte b (q + i)) n
-      (λ i h. eqb-true _ _ (not-false _ (range-none (apart a p b q) (λ j. j) n 0 (nothing (difference a p b q n) e) i (omega arith) h)))
-    where
-      nothing : (f : Found) → isNothing f ≡ true → f ≡ Nothing
-      nothing (At i) e = cc
-      nothing Nothing e = refl
+      (λ i h. eqb-true _ _ (not-false _ (range-none (apart a p b q) (λ j. j) n 0 (is-nothing (difference a p b q n) e) i (omega arith) h)))
 
   pub equal-is-same : run a p n ≡ run b q n → sameRun a p b q n ≡ true
   unfolding sameRun difference
@@ -59,3 +61,13 @@ module _ (s : List ℕ) (p from to : ℕ) where
   pub none-nonzero : ((i : ℕ) → from ≤ i → i < to → byte s (p + i) ≡ 0) → nonzero s p from to ≡ Nothing
   unfolding nonzero
   none-nonzero f = none-range (isSet s p) (λ j. p + j) to from (λ i h k. ap not (eq-eqb _ _ (f i h k)))
+
+  -- eight to sixteen bytes are zero where the first eight and the last eight are
+  pub none-by-ends : from + 8 ≤ to → to ≤ from + 16 → le64 s (p + from) ≡ 0 → le64 s (p + to - 8) ≡ 0 → nonzero s p from to ≡ Nothing
+  none-by-ends h k a b =
+      none-nonzero
+      (λ i l m.
+      elim (below i (from + 8)) [
+        | inl n ↦ ap (byte s) (omega arith) ∙ le64-zero s (p + from) a (i - from) (omega arith)
+        | inr n ↦ ap (byte s) (omega arith) ∙ le64-zero s (p + to - 8) b (i + 8 - to) (omega arith)
+      ])
