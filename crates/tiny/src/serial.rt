@@ -8,8 +8,7 @@ use octets::Span;
 use octets::byte_from;
 use tiny_layout::Reference;
 use tiny_layout::item_size;
-use tiny_rules::items::Test;
-use tiny_rules::items::first_from;
+use tiny_rules::items::first_known;
 use tiny_rules::pool_of;
 use verdict::Refusal;
 ghost use mathlib.Core.Path.{_≡_};
@@ -21,11 +20,11 @@ ghost use Rattle.tiny.specs.Answers.{serials, copied, nameIn};
 fn only_serial(image: &[u8], kinds: Kinds) -> Found
     ensures { λ r. ⌜ r ≡ only (serials kinds (now (image .entry))) ⌝ }
 {
-    let Found::At(at) = first_from(Test::Known(0x10), image, kinds, 3) else {
+    let Found::At(at) = first_known(image, kinds, 0x10, 3) else {
         return Found::Nothing;
     };
     let after = at + item_size(image, at) as usize;
-    let Found::Nothing = first_from(Test::Known(0x10), image, kinds, after) else {
+    let Found::Nothing = first_known(image, kinds, 0x10, after) else {
         return Found::Nothing;
     };
     Found::At(at)

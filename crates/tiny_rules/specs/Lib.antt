@@ -2,5 +2,6 @@
 pub mod Rules
 pub mod Judged
 pub mod Tests
+pub mod Findings
 pub mod Examples
 pub mod laws

@@ -7,3 +7,4 @@ pub mod Same
 pub mod Front
 pub mod Smallest
 pub mod Bounds
+pub mod Findings

@@ -1,36 +1,13 @@
-// Rules 10 and 11: the data of a known item, by the row of its tag.
-use super::bytes::ByteTest;
-use super::bytes::first_byte;
+// Rule 11: the fields of a known item, by the row of its tag.
 use chain::Found;
 use octets::byte_at;
 use octets::label::is_text;
 use octets::le16_at;
 use tiny_layout::Shape;
-use tiny_layout::index_count;
 ghost use mathlib.Core.Path.{_≡_};
 ghost use Prim.Native.Nat.{_<_};
 ghost use Rattle.chain.specs.First.{orElse};
-ghost use Rattle.tiny_rules.specs.Rules.{badIndex, isMajor, badRevision, badBatch, badField};
-ghost use Rattle.tiny_rules.specs.Tests.{dataRule};
-
-// A rule on the data of a known item: 10, with the string count, or 11.
-pub enum DataRule {
-    Index(usize),
-    Field,
-}
-
-// Rule 10: the first index that is not below the count.
-fn bad_index(image: &[u8], count: usize, shape: Shape, start: usize) -> Found
-    requires { ⌜ start < 65536 ⌝ }
-    ensures { λ r. ⌜ r ≡ badIndex (now (image .entry)) count shape start ⌝ }
-{
-    first_byte(
-        ByteTest::Beyond(count),
-        image,
-        start,
-        start + index_count(shape) as usize,
-    )
-}
+ghost use Rattle.tiny_rules.specs.Rules.{isMajor, badRevision, badBatch, badField};
 
 // Whether a major is in range.
 pub fn is_major(m: u8) -> bool
@@ -74,9 +51,8 @@ fn bad_batched(image: &[u8], start: usize) -> Found
     Found::Nothing
 }
 
-// Rule 11.
-fn bad_field(image: &[u8], shape: Shape, start: usize) -> Found
-    requires { ⌜ start < 65536 ⌝ }
+// Rule 11 on the data of an item, by the row of its tag.
+pub fn bad_field(image: &[u8], shape: Shape, start: u16) -> Found
     ensures { λ r. ⌜ r ≡ badField (now (image .entry)) shape start ⌝ }
 {
     match shape {
@@ -84,18 +60,8 @@ fn bad_field(image: &[u8], shape: Shape, start: usize) -> Found
         Shape::Serial => Found::Nothing,
         Shape::Flags => Found::Nothing,
         Shape::Address => Found::Nothing,
-        Shape::Identity => bad_revision(image, start),
-        Shape::Batched => bad_batched(image, start),
+        Shape::Identity => bad_revision(image, start as usize),
+        Shape::Batched => bad_batched(image, start as usize),
         Shape::Other => Found::Nothing,
-    }
-}
-
-// Where the data break the rule.
-pub fn bad_data(rule: DataRule, image: &[u8], shape: Shape, start: u16) -> Found
-    ensures { λ r. ⌜ r ≡ dataRule rule (now (image .entry)) shape start ⌝ }
-{
-    match rule {
-        DataRule::Index(count) => bad_index(image, count, shape, start as usize),
-        DataRule::Field => bad_field(image, shape, start as usize),
     }
 }

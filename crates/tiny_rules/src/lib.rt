@@ -6,24 +6,34 @@ use tiny_layout::Pool;
 use tiny_layout::check_place;
 use verdict::Judged;
 use verdict::refused;
+ghost use mathlib.Core.Bool.{cond};
 ghost use mathlib.Core.Path.{_≡_};
 ghost use Prim.Native.Nat.{_≤_};
 ghost use lib.ListN.{length, drop};
+ghost use Rattle.chain.specs.Chain.{range};
+ghost use Rattle.chain.specs.First.{first};
+ghost use Rattle.chain.specs.declared.Found.{Found};
+ghost use Rattle.kinds.specs.Kinds.{listed};
+ghost use Rattle.kinds.specs.declared.Kind.{Kind};
 ghost use Rattle.tiny_layout.specs.Layout.{checkPlace, items};
-ghost use Rattle.tiny_layout.specs.Pool.{pool};
+ghost use Rattle.tiny_layout.specs.Pool.{poolPlace, pool};
+ghost use Rattle.tiny_layout.specs.Strings.{texts};
+ghost use Rattle.tiny_rules.specs.Findings.{Walked};
 ghost use Rattle.tiny_rules.specs.Judged.{rules, judged};
-ghost use Rattle.tiny_rules.specs.Rules.{rule5, rule9, rule10};
+ghost use Rattle.tiny_rules.specs.Rules.{rule5, unfit, onKnown, badIndex};
 ghost use Rattle.verdict.specs.Verdict.{answer};
 
 mod bytes;
 mod fields;
 pub mod items;
+mod walk;
 
 use bytes::ByteTest;
 use bytes::first_byte;
-use fields::DataRule;
-use items::Test;
-use items::first_from;
+use items::first_index;
+use items::first_known;
+use walk::Findings;
+use walk::walk_all;
 
 // Rule 5: the check byte's place, where it is not the CRC-8 of the bytes before it.
 fn bad_check(image: &[u8]) -> Found
@@ -37,49 +47,60 @@ fn bad_check(image: &[u8]) -> Found
     Found::At(end)
 }
 
-// The data of the listed pool; none without one.
-pub fn pool_of(image: &[u8], kinds: Kinds) -> Pool
+// The data of the listed pool, by its place; none without one.
+fn pool_by(image: &[u8], kinds: Kinds, place: Found) -> Pool
+    requires { ⌜ place ≡ poolPlace kinds (now image) ⌝ }
     ensures { λ r. ⌜ r ≡ pool kinds (now (image .entry)) ⌝ }
 {
-    let Found::At(at) = first_from(Test::Known(0x01), image, kinds, 3) else {
+    let Found::At(at) = place else {
         return Pool { from: 0, to: 0 };
     };
     tiny_layout::pool_at(image, at as u8)
 }
 
-// Rule 9: the place of the first byte of the listed pool that breaks it.
-fn bad_pool(image: &[u8], kinds: Kinds) -> Found
-    ensures { λ r. ⌜ r ≡ rule9 kinds (now (image .entry)) ⌝ }
+// The data of the listed pool; none without one.
+pub fn pool_of(image: &[u8], kinds: Kinds) -> Pool
+    ensures { λ r. ⌜ r ≡ pool kinds (now (image .entry)) ⌝ }
 {
-    let pool = pool_of(image, kinds);
+    pool_by(image, kinds, first_known(image, kinds, 0x01, 3))
+}
+
+// Rule 9: the place of the first byte of the pool that breaks it.
+fn bad_pool(image: &[u8], pool: Pool) -> Found
+    ensures { λ r. ⌜ r ≡ first (unfit (now (image .entry)) (pool .to)) (range (pool .from) (pool .to)) ⌝ }
+{
     first_byte(ByteTest::Unfit, image, pool.from as usize, pool.to as usize)
 }
 
 // Rule 10: the place of the first index that is not below the string count.
-fn bad_reference(image: &[u8], kinds: Kinds) -> Found
-    ensures { λ r. ⌜ r ≡ rule10 kinds (now (image .entry)) ⌝ }
+fn bad_reference(image: &[u8], kinds: Kinds, pool: Pool) -> Found
+    ensures { λ r. ⌜ r ≡ cond (listed kinds (Kind.Tag 0x01)) (first (onKnown kinds (now (image .entry)) (badIndex (now (image .entry)) (length (texts (now (image .entry)) pool)))) (items (now (image .entry)))) Found.Nothing ⌝ }
 {
     if kinds.has_tag(0x01) {
-        let count = tiny_layout::string_count(image, pool_of(image, kinds));
-        return first_from(Test::Data(DataRule::Index(count)), image, kinds, 3);
+        let count = tiny_layout::string_count(image, pool);
+        return first_index(image, kinds, count);
     }
     Found::Nothing
 }
 
 // The rules from 9 on.
-fn judge_data(image: &[u8], kinds: Kinds) -> Judged
+fn judge_data(image: &[u8], kinds: Kinds, found: Findings) -> Judged
+    requires { ⌜ Walked kinds (now image) found ⌝ }
     ensures { λ r. ⌜ r ≡ answer (drop 8 (rules kinds (now (image .entry)))) (Judged.Accepted (length (items (now (image .entry))))) ⌝ }
 {
-    if let Found::At(p) = bad_pool(image, kinds) {
+    let place = found.pool;
+    let field = found.field;
+    let pool = pool_by(image, kinds, place);
+    if let Found::At(p) = bad_pool(image, pool) {
         return refused(9, p);
     }
-    if let Found::At(p) = bad_reference(image, kinds) {
+    if let Found::At(p) = bad_reference(image, kinds, pool) {
         return refused(10, p);
     }
-    if let Found::At(p) = first_from(Test::Data(DataRule::Field), image, kinds, 3) {
+    if let Found::At(p) = field {
         return refused(11, p);
     }
-    Judged::Accepted(tiny_layout::item_count(image))
+    Judged::Accepted(found.count)
 }
 
 // The rules from 5 on.
@@ -90,16 +111,20 @@ fn judge_items(image: &[u8], kinds: Kinds) -> Judged
     if let Found::At(p) = bad_check(image) {
         return refused(5, p);
     }
-    if let Found::At(p) = first_from(Test::Passes, image, kinds, 3) {
+    let found = walk_all(image, kinds);
+    let passing = found.passing;
+    let reserved = found.reserved;
+    let early = found.early;
+    if let Found::At(p) = passing {
         return refused(6, p);
     }
-    if let Found::At(p) = first_from(Test::Reserved, image, kinds, 3) {
+    if let Found::At(p) = reserved {
         return refused(7, p);
     }
-    if let Found::At(p) = first_from(Test::Early, image, kinds, 3) {
+    if let Found::At(p) = early {
         return refused(8, p);
     }
-    judge_data(image, kinds)
+    judge_data(image, kinds, found)
 }
 
 // Whether an image is accepted by a reader with this list, and how many items it has; or the refusal.

@@ -25,10 +25,7 @@ use Rattle.tiny_layout.specs.Strings.{texts}
 use Rattle.tiny_layout.specs.laws.Layout.{next-grows, items-within}
 use Rattle.tiny_rules.specs.Judged.{rules, judged}
 use Rattle.tiny_rules.specs.Rules.{rule1, rule2, rule3, rule4, rule5, passes, rule6, rule7, rule8, noCharacter, endUnmarked, unfit, rule9, onKnown, badIndex, rule10, rule11}
-use Rattle.tiny_rules.specs.Tests.{asked}
-use Rattle.tiny_rules.specs.declared.fields.DataRule.the-variants.{Index, Field}
-use Rattle.tiny_rules.specs.declared.items.Test.{Test}
-use Rattle.tiny_rules.specs.declared.items.Test.the-variants.{Reserved, Early, Data}
+use Rattle.tiny_rules.specs.Tests.{Index, Field, Test, Reserved, Early, Data, asked}
 use Rattle.tiny_rules.specs.laws.Accepted.{unpassed-fit, unpassed-pool, total-within, accepted-count}
 use Rattle.tiny_rules.specs.laws.Smallest.{asked-inside}
 use Rattle.verdict.specs.Verdict.{refusal}

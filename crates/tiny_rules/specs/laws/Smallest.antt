@@ -31,11 +31,7 @@ use Rattle.tiny_layout.specs.declared.Shape.{Shape}
 use Rattle.tiny_layout.specs.laws.Layout.{data-after, next-grows}
 use Rattle.tiny_layout.specs.laws.Tags.{fields-within, indexes-within}
 use Rattle.tiny_rules.specs.Rules.{noCharacter, endUnmarked, passes, rule6, reserved, rule7, early, rule8, unfit, rule9, onKnown, badIndex, rule10, isMajor, isMinor, isBatch, badRevision, badBatch, badField, rule11}
-use Rattle.tiny_rules.specs.Tests.{dataRule, asked}
-use Rattle.tiny_rules.specs.declared.fields.DataRule.{DataRule}
-use Rattle.tiny_rules.specs.declared.fields.DataRule.the-variants.{Index, Field}
-use Rattle.tiny_rules.specs.declared.items.Test.{Test}
-use Rattle.tiny_rules.specs.declared.items.Test.the-variants.{Passes, Reserved, Early, Data, Known}
+use Rattle.tiny_rules.specs.Tests.{DataRule, Index, Field, Test, Passes, Reserved, Early, Data, dataRule, asked}
 
 -- ---- the bytes of a range: what is found passes the test, lies in the range, and no byte before it passes
 module _ (test : ℕ → Bool) (a b z : ℕ) (e : first (λ q. when (test q) q) (range a b) ≡ At z) where
@@ -208,7 +204,6 @@ asked-inside test k s p z = go test
     go Reserved e = start (eqb (byte s p) 0x00) e
     go Early e = start (listed k (Tag 0x01) && eqb (byte s p) 0x01 && ltb (next s p) (checkPlace s)) e
     go (Data rule) e = known rule (listed k (Tag (byte s p))) e
-    go (Known tag) e = start (listed k (Tag tag) && eqb (byte s p) tag) e
 
 -- the search along the items gives the smallest place: no item's answer is smaller
 pub asked-smallest : (test : Test) (k : Kinds) (s : List ℕ) (z : ℕ) → first (asked test k s) (items s) ≡ At z → All (λ p. (q : ℕ) → asked test k s p ≡ At q → z ≤ q) (items s)

@@ -11,8 +11,8 @@ use Rattle.tiny.proofs.serial.only_serial.Statement.{statement}
 use Rattle.tiny.specs.Answers.{isSerial}
 use Rattle.tiny.proofs.serial.only_serial.Tie as tie
 
-first-from-requires : tie.Need-first-from-requires
-first-from-requires c κs = search needs
+first-known-requires : tie.Need-first-known-requires
+first-known-requires c κs = search needs
 
 enum-known-at : tie.Need-enum-known-at
 enum-known-at c = search needs
@@ -23,7 +23,7 @@ enum-told c = search needs
 returns : tie.Need-returns
 returns c =
     let a = c .before .before .before .before .args in
-    sym (only-none (isSerial (a .kinds) (a .image .now)) (items (a .image .now)) (sym (c .before .before .first-from .ensures) ∙ c .enum-told .given .1))
+    sym (only-none (isSerial (a .kinds) (a .image .now)) (items (a .image .now)) (sym (c .before .before .first-known .ensures) ∙ c .enum-told .given .1))
 
 item-size-requires : tie.Need-item-size-requires
 item-size-requires c κs = search needs
@@ -34,10 +34,10 @@ cast-after c = search needs
 add-after : tie.Need-add-after
 add-after c =
     let a = c .before .before .before .before .before .before .args in
-    omega (arith, known-found (a .kinds) (a .image .now) 0x10 _ (sym (c .before .before .before .before .first-from .ensures) ∙ c .before .before .at .given .1) .to, c .before .before .before .before .before .shared-slice-known .given 2)
+    omega (arith, known-found (a .kinds) (a .image .now) 0x10 _ (sym (c .before .before .before .before .first-known .ensures) ∙ c .before .before .at .given .1) .to, c .before .before .before .before .before .shared-slice-known .given 2)
 
-first-from-requires-2 : tie.Need-first-from-requires-2
-first-from-requires-2 c κs = search needs
+first-known-requires-2 : tie.Need-first-known-requires-2
+first-known-requires-2 c κs = search needs
 
 enum-told-2 : tie.Need-enum-told-2
 enum-told-2 c = search needs
@@ -50,27 +50,27 @@ unfolding next
 returns-2 c =
     let a = c .before .before .before .before .before .before .before .before .before .args in
     let s = a .image .now in
-    sym (only-two (isSerial (a .kinds) s) (next s) (checkPlace s) (next-grows s) 3 _ _ (sym (c .before .before .before .before .before .before .before .first-from .ensures) ∙ c .before .before .before .before .before .at .given .1) (sym (rw (c .before .before .before .item-size .ensures) at (c .before .before .first-from2 .ensures)) ∙ c .enum-told3 .given .1))
+    sym (only-two (isSerial (a .kinds) s) (next s) (checkPlace s) (next-grows s) 3 _ _ (sym (c .before .before .before .before .before .before .before .first-known .ensures) ∙ c .before .before .before .before .before .at .given .1) (sym (rw (c .before .before .before .item-size .ensures) at (c .before .before .first-known2 .ensures)) ∙ c .enum-told3 .given .1))
 
 returns-3 : tie.Need-returns-3
 unfolding next
 returns-3 c =
     let a = c .before .before .before .before .before .before .before .before .before .args in
     let s = a .image .now in
-    sym (only-one (isSerial (a .kinds) s) (next s) (checkPlace s) (next-grows s) 3 _ (sym (c .before .before .before .before .before .before .before .first-from .ensures) ∙ c .before .before .before .before .before .at .given .1) (sym (rw (c .before .before .before .item-size .ensures) at (c .before .before .first-from2 .ensures)) ∙ c .enum-told2 .given .1))
+    sym (only-one (isSerial (a .kinds) s) (next s) (checkPlace s) (next-grows s) 3 _ (sym (c .before .before .before .before .before .before .before .first-known .ensures) ∙ c .before .before .before .before .before .at .given .1) (sym (rw (c .before .before .before .item-size .ensures) at (c .before .before .first-known2 .ensures)) ∙ c .enum-told2 .given .1))
 
 pub only-serial-spec : {M : Type 1} → statement M
 only-serial-spec =
     tie.close
     (tie.spec
-    first-from-requires
+    first-known-requires
     enum-known-at
     enum-told
     returns
     item-size-requires
     cast-after
     add-after
-    first-from-requires-2
+    first-known-requires-2
     enum-told-2
     enum-told-3
     returns-2

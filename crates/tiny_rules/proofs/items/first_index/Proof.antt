@@ -1,4 +1,4 @@
--- `items::first_from` meets its contract. The loop's invariant: the first answer from `at` on is the first of all. Assumes nothing.
+-- `items::first_index` meets its contract. The loop's invariant: the first answer from `at` on is the first of all. Assumes nothing.
 use Prim.Native.Nat.{_-_}
 use mathlib.Core.Path.{_≡_, refl, sym, _∙_}
 use native.Mathlib.Omega.{arith}
@@ -7,17 +7,18 @@ use Rattle.chain.specs.Chain.{chain}
 use Rattle.chain.specs.First.{first}
 use Rattle.chain.specs.laws.Loops.{turn, hit, done}
 use Rattle.octets.specs.Bytes.{byte}
-use Rattle.tiny_layout.specs.Layout.{checkPlace, next}
+use Rattle.tiny_layout.specs.Layout.{checkPlace, next, items}
 use Rattle.tiny_layout.specs.laws.Layout.{head-bounds, next-grows}
-use Rattle.tiny_rules.proofs.items.first_from.Statement.{statement}
-use Rattle.tiny_rules.specs.Tests.{asked}
-use Rattle.tiny_rules.proofs.items.first_from.Tie as tie
+use Rattle.tiny_rules.specs.Rules.{onKnown, badIndex}
+use Rattle.tiny_rules.proofs.items.first_index.Statement.{statement}
+use Rattle.tiny_rules.proofs.items.first_index.Tie as tie
 
 abbrev Inv-loop : tie.InvT-loop
-Inv-loop test image kinds from end at₀ at = first (asked test kinds image) (chain (next image) (checkPlace image) at) ≡ first (asked test kinds image) (chain (next image) (checkPlace image) from)
+Inv-loop image kinds count end at₀ at =
+    first (onKnown kinds image (badIndex image count)) (chain (next image) (checkPlace image) at) ≡ first (onKnown kinds image (badIndex image count)) (items image)
 
 abbrev μ-loop : tie.MeasureT-loop
-μ-loop test image kinds from end at₀ at = end - at
+μ-loop image kinds count end at₀ at = end - at
 
 check-place-requires : tie.Need-check-place-requires Inv-loop μ-loop
 check-place-requires c κs = omega arith
@@ -28,8 +29,8 @@ cast-end c = omega arith
 loop-holds : tie.Need-loop-holds Inv-loop μ-loop
 loop-holds c = refl
 
-ask-requires : tie.Need-ask-requires Inv-loop μ-loop
-ask-requires c κs = omega arith
+index-at-requires : tie.Need-index-at-requires Inv-loop μ-loop
+index-at-requires c κs = omega arith
 
 enum-told : tie.Need-enum-told Inv-loop μ-loop
 enum-told c = search needs
@@ -37,7 +38,7 @@ enum-told c = search needs
 returns : tie.Need-returns Inv-loop μ-loop
 returns c =
     let told = c .enum-told .given .1 in
-    told ∙ hit _ _ _ (next-grows (c .before .before .before .before .before .before .before .args .image .now)) _ _ (rw (c .before .before .before .before .before .check-place .ensures) at (c .before .before .before .loop-test .taken)) (sym (c .before .before .ask .ensures) ∙ told) (c .before .before .before .before .loop .inv)
+    told ∙ hit _ _ _ (next-grows (c .before .before .before .before .before .before .before .args .image .now)) _ _ (rw (c .before .before .before .before .before .check-place .ensures) at (c .before .before .before .loop-test .taken)) (sym (c .before .before .index-at .ensures) ∙ told) (c .before .before .before .before .loop .inv)
 
 enum-told-2 : tie.Need-enum-told-2 Inv-loop μ-loop
 enum-told-2 c = search needs
@@ -56,13 +57,13 @@ loop-less c = omega (arith, c .item-size .ensures, head-bounds (byte (c .before 
 
 loop-again : tie.Need-loop-again Inv-loop μ-loop
 unfolding next
-loop-again c = turn _ _ _ (next-grows (c .before .before .before .before .before .before .before .before .args .image .now)) _ _ (rw (c .before .before .before .before .before .before .check-place .ensures) at (c .before .before .before .before .loop-test .taken)) (sym (c .before .before .before .ask .ensures) ∙ c .before .enum-told2 .given .1) (rw (c .item-size .ensures)) (c .before .before .before .before .before .loop .inv)
+loop-again c = turn _ _ _ (next-grows (c .before .before .before .before .before .before .before .before .args .image .now)) _ _ (rw (c .before .before .before .before .before .before .check-place .ensures) at (c .before .before .before .before .loop-test .taken)) (sym (c .before .before .before .index-at .ensures) ∙ c .before .enum-told2 .given .1) (rw (c .item-size .ensures)) (c .before .before .before .before .before .loop .inv)
 
 returns-2 : tie.Need-returns-2 Inv-loop μ-loop
 returns-2 c = done _ _ _ (next-grows (c .before .before .before .before .args .image .now)) _ (rw (c .before .before .check-place .ensures) at (c .loop-test .left)) (c .before .loop .inv)
 
-pub first-from-spec : {M : Type 1} → statement M
-first-from-spec =
+pub first-index-spec : {M : Type 1} → statement M
+first-index-spec =
     tie.close
     (tie.spec
     Inv-loop
@@ -70,7 +71,7 @@ first-from-spec =
     check-place-requires
     cast-end
     loop-holds
-    ask-requires
+    index-at-requires
     enum-told
     returns
     enum-told-2

@@ -1,0 +1,40 @@
+-- What the code's one walk along the items reads, notes and finds. A reader of the rules may skip this. Assumes nothing.
+use Prim.Native.Nat.{ℕ, _+_}
+use mathlib.Core.List.{List}
+use mathlib.Core.Path.{_≡_}
+use lib.ListN.{length}
+use Rattle.chain.specs.First.{orElse}
+use Rattle.kinds.specs.declared.Kinds.{Kinds}
+use Rattle.octets.specs.Bytes.{byte}
+use Rattle.tiny_layout.specs.Layout.{checkPlace, dataAt, next, items}
+use Rattle.tiny_layout.specs.Pool.{knownOf, poolPlace}
+use Rattle.tiny_rules.specs.Rules.{passes, reserved, early, onKnown, badField, rule6, rule7, rule8, rule11}
+use Rattle.tiny_rules.specs.declared.walk.Findings.{Findings}
+use Rattle.tiny_rules.specs.declared.walk.Head.{Head}
+
+-- the head of the item at p
+abbrev pub headAt : List ℕ → ℕ → Head
+headAt s p = record { tag = byte s p; start = dataAt s p; after = next s p }
+
+-- `end` is the check byte's place, and `head` the head of the item at p
+pub record Seen (s : List ℕ) (end p : ℕ) (head : Head) : Type 0 where
+  pub all : end ≡ checkPlace s
+  pub here : head ≡ headAt s p
+
+-- g is what was found before the item at p, in f, or else is found there
+pub record Noted (k : Kinds) (s : List ℕ) (p : ℕ) (f g : Findings) : Type 0 where
+  pub passing : g .passing ≡ orElse (f .passing) (passes s p)
+  pub reserved : g .reserved ≡ orElse (f .reserved) (reserved s p)
+  pub early : g .early ≡ orElse (f .early) (early k s p)
+  pub pool : g .pool ≡ orElse (f .pool) (knownOf k s 0x01 p)
+  pub field : g .field ≡ orElse (f .field) (onKnown k s (badField s) p)
+  pub count : g .count ≡ f .count + 1
+
+-- f is what the whole walk finds
+pub record Walked (k : Kinds) (s : List ℕ) (f : Findings) : Type 0 where
+  pub passing : f .passing ≡ rule6 s
+  pub reserved : f .reserved ≡ rule7 s
+  pub early : f .early ≡ rule8 k s
+  pub pool : f .pool ≡ poolPlace k s
+  pub field : f .field ≡ rule11 k s
+  pub count : f .count ≡ length (items s)
