@@ -18,7 +18,7 @@ ghost use Rattle.kinds.specs.declared.Kind.{Kind};
 ghost use Rattle.tiny_layout.specs.Layout.{checkPlace, items};
 ghost use Rattle.tiny_layout.specs.Pool.{poolPlace, pool};
 ghost use Rattle.tiny_layout.specs.Strings.{texts};
-ghost use Rattle.tiny_rules.specs.Findings.{Walked};
+ghost use Rattle.tiny_rules.specs.Findings.{AboveAll, Walked};
 ghost use Rattle.tiny_rules.specs.Judged.{rules, judged};
 ghost use Rattle.tiny_rules.specs.Rules.{rule5, unfit, onKnown, badIndex};
 ghost use Rattle.verdict.specs.Verdict.{answer};
@@ -72,12 +72,16 @@ fn bad_pool(image: &[u8], pool: Pool) -> Found
     first_byte(ByteTest::Unfit, image, pool.from as usize, pool.to as usize)
 }
 
-// Rule 10: the place of the first index that is not below the string count.
-fn bad_reference(image: &[u8], kinds: Kinds, pool: Pool) -> Found
+// Rule 10: the place of the first index that is not below the string count. There is none where the walk found no index as high as that.
+fn bad_reference(image: &[u8], kinds: Kinds, pool: Pool, above: usize) -> Found
+    requires { ⌜ AboveAll kinds (now image) above ⌝ }
     ensures { λ r. ⌜ r ≡ cond (listed kinds (Kind.Tag 0x01)) (first (onKnown kinds (now (image .entry)) (badIndex (now (image .entry)) (length (texts (now (image .entry)) pool)))) (items (now (image .entry)))) Found.Nothing ⌝ }
 {
     if kinds.has_tag(0x01) {
         let count = tiny_layout::string_count(image, pool);
+        if above <= count {
+            return Found::Nothing;
+        }
         return first_index(image, kinds, count);
     }
     Found::Nothing
@@ -94,7 +98,7 @@ fn judge_data(image: &[u8], kinds: Kinds, found: Findings) -> Judged
     if let Found::At(p) = bad_pool(image, pool) {
         return refused(9, p);
     }
-    if let Found::At(p) = bad_reference(image, kinds, pool) {
+    if let Found::At(p) = bad_reference(image, kinds, pool, found.above) {
         return refused(10, p);
     }
     if let Found::At(p) = field {

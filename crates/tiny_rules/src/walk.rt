@@ -1,5 +1,5 @@
-// One walk along the items for the rules that are asked of each of them, 6, 7, 8 and 11, for the listed pool and for the count. What each rule finds
-// first is carried along, and the table's order decides later which is told: so rule 11 may be asked before 9 and 10.
+// One walk along the items for the rules that are asked of each of them, 6, 7, 8 and 11, for the listed pool, the highest index and the count. What each
+// rule finds first is carried along, and the table's order decides later which is told: so rule 11 may be asked before 9 and 10.
 use super::fields::bad_field;
 use chain::Found;
 use chain::or_else;
@@ -7,19 +7,20 @@ use kinds::Kinds;
 use octets::byte_at;
 use tiny_layout::check_place;
 use tiny_layout::head_size;
+use tiny_layout::index_count;
 use tiny_layout::item_size;
 use tiny_layout::shape_of;
 ghost use mathlib.Core.Bool.{cond, _&&_, _||_};
 ghost use mathlib.Core.Path.{_≡_};
-ghost use Prim.Native.Nat.{_≤_};
+ghost use Prim.Native.Nat.{ℕ, _+_, _≤_};
 ghost use lib.Dec.{eqb, ltb};
 ghost use Rattle.chain.specs.First.{when};
 ghost use Rattle.chain.specs.declared.Found.{Found};
 ghost use Rattle.kinds.specs.Kinds.{listed};
 ghost use Rattle.kinds.specs.declared.Kind.{Kind};
 ghost use Rattle.tiny_layout.specs.Tags.{shapeOf};
-ghost use Rattle.tiny_rules.specs.Findings.{headAt, Seen, Noted, Walked};
-ghost use Rattle.tiny_rules.specs.Rules.{badField};
+ghost use Rattle.tiny_rules.specs.Findings.{headAt, Seen, Above, Noted, Walked};
+ghost use Rattle.tiny_rules.specs.Rules.{badIndex, badField};
 
 // What is read of the item at a place: its tag, where its data begin, and where the next item starts.
 pub struct Head {
@@ -28,13 +29,14 @@ pub struct Head {
     pub after: u16,
 }
 
-// What a walk has found: the first place of each rule, the listed pool, and how many items there are.
+// What a walk has found: the first place of each rule, the listed pool, a number above every index of a known item, and how many items there are.
 pub struct Findings {
     pub passing: Found,
     pub reserved: Found,
     pub early: Found,
     pub pool: Found,
     pub field: Found,
+    pub above: usize,
     pub count: usize,
 }
 
@@ -109,6 +111,33 @@ fn field_at(image: &[u8], kinds: Kinds, head: Head) -> Found
     Found::Nothing
 }
 
+// A number that is at least `least`, and above the n bytes from a place on.
+fn above_bytes(image: &[u8], least: usize, from: u16, n: u8) -> usize
+    ensures { λ r. ⌜ Above (now (image .entry)) least from (from + n) r ⌝ }
+{
+    let end = from as usize + n as usize;
+    let mut most = least;
+    let mut at = from as usize;
+    while at < end {
+        let b = byte_at(image, at) as usize;
+        if most <= b {
+            most = b + 1;
+        }
+        at += 1;
+    }
+    most
+}
+
+// The same for the indexes of an item, if it is known: with as many strings they do not break rule 10.
+fn above_at(image: &[u8], kinds: Kinds, least: usize, head: Head) -> usize
+    ensures { λ r. ⌜ (least ≤ r) × ((n : ℕ) → r ≤ n → cond (listed kinds (Kind.Tag (head .tag))) (badIndex (now (image .entry)) n (shapeOf (head .tag)) (head .start)) Found.Nothing ≡ Found.Nothing) ⌝ }
+{
+    if kinds.has_tag(head.tag) {
+        return above_bytes(image, least, head.start, index_count(shape_of(head.tag)));
+    }
+    least
+}
+
 // What is found with the item at a place, after what was found before it.
 fn note(found: Findings, image: &[u8], kinds: Kinds, end: u8, at: u8, head: Head) -> Findings
     requires { ⌜ Seen (now image) end at head ⌝ }
@@ -120,6 +149,7 @@ fn note(found: Findings, image: &[u8], kinds: Kinds, end: u8, at: u8, head: Head
     let early = found.early;
     let pool = found.pool;
     let field = found.field;
+    let above = found.above;
     let count = found.count;
     Findings {
         passing: or_else(passing, passes_at(end, at, head)),
@@ -127,6 +157,7 @@ fn note(found: Findings, image: &[u8], kinds: Kinds, end: u8, at: u8, head: Head
         early: or_else(early, early_at(kinds, end, at, head)),
         pool: or_else(pool, pool_at(kinds, at, head)),
         field: or_else(field, field_at(image, kinds, head)),
+        above: above_at(image, kinds, above, head),
         count: count + 1,
     }
 }
@@ -142,6 +173,7 @@ pub fn walk_all(image: &[u8], kinds: Kinds) -> Findings
         early: Found::Nothing,
         pool: Found::Nothing,
         field: Found::Nothing,
+        above: 0,
         count: 0,
     };
     let mut at = 3;

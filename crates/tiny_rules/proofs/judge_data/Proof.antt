@@ -29,7 +29,7 @@ enum-told : tie.Need-enum-told
 enum-told c = search needs
 
 bad-reference-requires : tie.Need-bad-reference-requires
-bad-reference-requires c κs = search needs
+bad-reference-requires c κs = c .before .before .before .before .before .pre .above
 
 enum-known-p-2 : tie.Need-enum-known-p-2
 enum-known-p-2 c = search needs

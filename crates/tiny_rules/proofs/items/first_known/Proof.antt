@@ -1,5 +1,5 @@
--- `items::first_known` meets its contract. The loop's invariant: the first item of the tag from `at` on is the first of all. A tag that is not on the list has none.
--- Assumes nothing.
+-- `items::first_known` meets its contract. The loop's invariant: the first item of the tag from `at` on is the first of all. A tag that
+-- is not on the list has none. Assumes nothing.
 use Prim.Native.Nat.{ℕ, _-_}
 use mathlib.Core.Bool.{Bool, true, false, _&&_}
 use mathlib.Core.List.{List}
@@ -27,6 +27,7 @@ use Rattle.tiny_rules.proofs.items.first_known.Tie as tie
 by-mark : (k : Kinds) (s : List ℕ) (tag from : ℕ) (b : Bool) → listed k (Tag tag) ≡ b → search (knownOf k s tag) (next s) (checkPlace s) from ≡ search (λ p. when (b && eqb (byte s p) tag) p) (next s) (checkPlace s) from
 by-mark k s tag from b e = ap (λ (m : Bool). search (λ p. when (m && eqb (byte s p) tag) p) (next s) (checkPlace s) from) e
 
+-- a rule that is never broken finds nothing
 none : (l : List ℕ) → first (λ p. Nothing) l ≡ Nothing
 none l = first-none (λ p. Nothing) l (all-of (λ p. Nothing ≡ Nothing) (λ p. refl) l)
 

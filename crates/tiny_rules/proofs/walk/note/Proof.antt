@@ -34,18 +34,22 @@ field-at-requires c κs = search needs
 or-else-requires-5 : tie.Need-or-else-requires-5
 or-else-requires-5 c κs = search needs
 
-add-t23 : tie.Need-add-t23
-add-t23 c = search needs
+above-at-requires : tie.Need-above-at-requires
+above-at-requires c κs = search needs
+
+add-t25 : tie.Need-add-t25
+add-t25 c = search needs
 
 returns : tie.Need-returns
 returns c =
-    let seen = c .before .before .before .before .before .before .before .before .before .before .before .pre .0 in
+    let seen = c .before .before .before .before .before .before .before .before .before .before .before .before .pre .0 in
     record {
-      passing = rw (c .before .before .before .before .before .before .before .before .or-else .ensures, c .before .before .before .before .before .before .before .before .before .passes-at .ensures, seen .all, seen .here);
-      reserved = rw (c .before .before .before .before .before .before .or-else2 .ensures, c .before .before .before .before .before .before .before .reserved-at .ensures, seen .here);
-      early = rw (c .before .before .before .before .or-else3 .ensures, c .before .before .before .before .before .early-at .ensures, seen .all, seen .here);
-      pool = rw (c .before .before .or-else4 .ensures, c .before .before .before .pool-at .ensures, seen .here);
-      field = rw (c .or-else5 .ensures, c .before .field-at .ensures, seen .here);
+      passing = rw (c .before .before .before .before .before .before .before .before .before .or-else .ensures, c .before .before .before .before .before .before .before .before .before .before .passes-at .ensures, seen .all, seen .here);
+      reserved = rw (c .before .before .before .before .before .before .before .or-else2 .ensures, c .before .before .before .before .before .before .before .before .reserved-at .ensures, seen .here);
+      early = rw (c .before .before .before .before .before .or-else3 .ensures, c .before .before .before .before .before .before .early-at .ensures, seen .all, seen .here);
+      pool = rw (c .before .before .before .or-else4 .ensures, c .before .before .before .before .pool-at .ensures, seen .here);
+      field = rw (c .before .or-else5 .ensures, c .before .before .field-at .ensures, seen .here);
+      above = rw (seen .here) at (c .above-at .ensures);
       count = refl;
     }
 
@@ -63,5 +67,6 @@ note-spec =
     or-else-requires-4
     field-at-requires
     or-else-requires-5
-    add-t23
+    above-at-requires
+    add-t25
     returns)
