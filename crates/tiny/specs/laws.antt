@@ -7,6 +7,7 @@ pub mod Alike
 pub mod Same
 pub mod Resolved
 pub mod Shown
+pub mod Part
 pub mod Exactly
 pub mod Front
 pub mod Bounds

@@ -103,7 +103,7 @@ pub fn item_numbered(image: &[u8], kinds: Kinds, number: usize) -> ItemAnswer
                     place: 0,
                 });
             };
-            ItemAnswer::Shown(item_at(image, kinds, pool_of(image, kinds), at as u8))
+            ItemAnswer::Shown(item_at(image, kinds, pool_of(image, kinds), at as u32))
         }
     }
 }

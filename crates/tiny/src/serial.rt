@@ -65,7 +65,7 @@ pub fn name_in(image: &[u8], kinds: Kinds, buffer: &mut [u8]) -> NameAnswer
     let Found::At(at) = only_serial(image, kinds) else {
         return no_name();
     };
-    let shown = item_at(image, kinds, pool_of(image, kinds), at as u8);
+    let shown = item_at(image, kinds, pool_of(image, kinds), at as u32);
     let item = shown.item;
     let Item::Serial(reference) = item else {
         return no_name();

@@ -90,7 +90,7 @@ fn put_items(image: &[u8], kinds: Kinds) {
     let end = check_place(image) as usize;
     let mut at = 3;
     while at < end {
-        put_item(image, pool, item_at(image, kinds, pool, at as u8));
+        put_item(image, pool, item_at(image, kinds, pool, at as u32));
         at += item_size(image, at) as usize;
     }
 }

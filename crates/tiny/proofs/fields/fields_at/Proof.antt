@@ -18,17 +18,11 @@ add-start c = search needs
 enum-told : tie.Need-enum-told
 enum-told c = search needs
 
-pool-at-requires : tie.Need-pool-at-requires
-pool-at-requires c κs = search needs
-
 pool-shown-requires : tie.Need-pool-shown-requires
 pool-shown-requires c κs = search needs
 
 enum-told-2 : tie.Need-enum-told-2
 enum-told-2 c = search needs
-
-cast-byte-at : tie.Need-cast-byte-at
-cast-byte-at c = search needs
 
 byte-at-requires-2 : tie.Need-byte-at-requires-2
 byte-at-requires-2 c κs = search needs
@@ -42,17 +36,11 @@ find-string-requires c κs = search needs
 enum-told-3 : tie.Need-enum-told-3
 enum-told-3 c = search needs
 
-cast-byte-at-2 : tie.Need-cast-byte-at-2
-cast-byte-at-2 c = search needs
-
 byte-at-requires-3 : tie.Need-byte-at-requires-3
 byte-at-requires-3 c κs = search needs
 
 enum-told-4 : tie.Need-enum-told-4
 enum-told-4 c = search needs
-
-cast-six-at : tie.Need-cast-six-at
-cast-six-at c = search needs
 
 six-at-requires : tie.Need-six-at-requires
 six-at-requires c κs = search needs
@@ -73,7 +61,7 @@ enum-told-7 : tie.Need-enum-told-7
 enum-told-7 c = search needs
 
 returns : tie.Need-returns
-returns c = rw (c .before .before .enum-told .given .1, c .pool-shown .ensures, c .before .pool-at .ensures)
+returns c = rw (c .before .enum-told .given .1, c .pool-shown .ensures)
 
 returns-2 : tie.Need-returns-2
 returns-2 c = rw (c .before .before .enum-told2 .given .1, c .find-string .ensures, c .before .byte-at2 .ensures, c .before .before .before .before .head-size .ensures, c .before .before .before .before .before .byte-at .ensures)
@@ -102,18 +90,14 @@ fields-at-spec =
     cast-start
     add-start
     enum-told
-    pool-at-requires
     pool-shown-requires
     enum-told-2
-    cast-byte-at
     byte-at-requires-2
     cast-find-string
     find-string-requires
     enum-told-3
-    cast-byte-at-2
     byte-at-requires-3
     enum-told-4
-    cast-six-at
     six-at-requires
     enum-told-5
     identity-at-requires
