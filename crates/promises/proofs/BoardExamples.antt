@@ -40,7 +40,7 @@ use Rattle.promises.specs.Hidden.{hidden}
 use Rattle.promises.specs.SameOutside.{SameOutside, InCheck, InsideUnknown}
 use Rattle.reader.specs.Answers.{itemNumbered, listOf}
 use Rattle.reader.specs.Entries.{entryAt}
-use Rattle.reader.specs.Walk.{stepOn, stepAt, walked, stepNumbered}
+use Rattle.reader.specs.Walk.{moved, shown as step-shown, walked, stepNumbered}
 use Rattle.reader.specs.declared.Format.the-variants.{Board}
 use Rattle.board.specs.declared.Fields.{Fields}
 use Rattle.kinds.specs.declared.Kind.the-variants.{Signature}
@@ -51,23 +51,23 @@ use Rattle.kinds.specs.Signatures as signatures
 
 -- ---- `$Logo$` off the list, and another logo
 accepts-board : Accepted (answers Board full instances.one)
-unfolding answers hidden itemNumbered listOf entryAt onward stepOn stepAt walked stepNumbered mapRecordNumbered gpioRecordNumbered restAt eepromAt eeprMapAt brdInfoAt itemAt mapRecordAt gpioRecordAt judged rule20 rule21 rule22 rule23 rule24 rule25 rule26 rule27 rule28 rule29 rule30 rule31 rule32 rule33 misplaced gapUsed expected outOfOrder promSigAt covered checkOver badMapHead badBoardHead badPromSigHead badHash badHashOf hashSize badMap badMapField badMapRecord badGpioRecord badBoardType reservedUsed badInside badGpio shapeAt shapeOf listedShape endAt round16 next mapAt boardAt laterAt records visit chain first nth tab le16 le32 le64 sixteenAt nonzero isText isLabelText textEnd badLabel listed picked all same crc32 shift shifts step32
+unfolding answers hidden itemNumbered listOf entryAt onward moved step-shown walked stepNumbered mapRecordNumbered gpioRecordNumbered restAt eepromAt eeprMapAt brdInfoAt itemAt mapRecordAt gpioRecordAt judged rule20 rule21 rule22 rule23 rule24 rule25 rule26 rule27 rule28 rule29 rule30 rule31 rule32 rule33 misplaced gapUsed expected outOfOrder promSigAt covered checkOver badMapHead badBoardHead badPromSigHead badHash badHashOf hashSize badMap badMapField badMapRecord badGpioRecord badBoardType reservedUsed badInside badGpio shapeAt shapeOf listedShape endAt round16 next mapAt boardAt laterAt records visit chain first nth tab le16 le32 le64 sixteenAt nonzero isText isLabelText textEnd badLabel listed picked all same crc32 shift shifts step32
 accepts-board = (4, refl)
 
 readers-board : TwoReaders Board full instances.logoless instances.one
 readers-board = demand3 Board .readers full instances.logoless (full-contains instances.logoless) instances.one accepts-board
 
 logoless-one : Accepted (answers Board instances.logoless instances.one)
-unfolding answers hidden itemNumbered listOf entryAt onward stepOn stepAt walked stepNumbered mapRecordNumbered gpioRecordNumbered restAt eepromAt eeprMapAt brdInfoAt itemAt mapRecordAt gpioRecordAt judged rule20 rule21 rule22 rule23 rule24 rule25 rule26 rule27 rule28 rule29 rule30 rule31 rule32 rule33 misplaced gapUsed expected outOfOrder promSigAt covered checkOver badMapHead badBoardHead badPromSigHead badHash badHashOf hashSize badMap badMapField badMapRecord badGpioRecord badBoardType reservedUsed badInside badGpio shapeAt shapeOf listedShape endAt round16 next mapAt boardAt laterAt records visit chain first nth tab le16 le32 le64 sixteenAt nonzero isText isLabelText textEnd badLabel listed picked all same crc32 shift shifts step32
+unfolding answers hidden itemNumbered listOf entryAt onward moved step-shown walked stepNumbered mapRecordNumbered gpioRecordNumbered restAt eepromAt eeprMapAt brdInfoAt itemAt mapRecordAt gpioRecordAt judged rule20 rule21 rule22 rule23 rule24 rule25 rule26 rule27 rule28 rule29 rule30 rule31 rule32 rule33 misplaced gapUsed expected outOfOrder promSigAt covered checkOver badMapHead badBoardHead badPromSigHead badHash badHashOf hashSize badMap badMapField badMapRecord badGpioRecord badBoardType reservedUsed badInside badGpio shapeAt shapeOf listedShape endAt round16 next mapAt boardAt laterAt records visit chain first nth tab le16 le32 le64 sixteenAt nonzero isText isLabelText textEnd badLabel listed picked all same crc32 shift shifts step32
 logoless-one = (4, refl)
 
 logoless-other : Accepted (answers Board instances.logoless instances.other)
-unfolding answers hidden itemNumbered listOf entryAt onward stepOn stepAt walked stepNumbered mapRecordNumbered gpioRecordNumbered restAt eepromAt eeprMapAt brdInfoAt itemAt mapRecordAt gpioRecordAt judged rule20 rule21 rule22 rule23 rule24 rule25 rule26 rule27 rule28 rule29 rule30 rule31 rule32 rule33 misplaced gapUsed expected outOfOrder promSigAt covered checkOver badMapHead badBoardHead badPromSigHead badHash badHashOf hashSize badMap badMapField badMapRecord badGpioRecord badBoardType reservedUsed badInside badGpio shapeAt shapeOf listedShape endAt round16 next mapAt boardAt laterAt records visit chain first nth tab le16 le32 le64 sixteenAt nonzero isText isLabelText textEnd badLabel listed picked all same crc32 shift shifts step32
+unfolding answers hidden itemNumbered listOf entryAt onward moved step-shown walked stepNumbered mapRecordNumbered gpioRecordNumbered restAt eepromAt eeprMapAt brdInfoAt itemAt mapRecordAt gpioRecordAt judged rule20 rule21 rule22 rule23 rule24 rule25 rule26 rule27 rule28 rule29 rule30 rule31 rule32 rule33 misplaced gapUsed expected outOfOrder promSigAt covered checkOver badMapHead badBoardHead badPromSigHead badHash badHashOf hashSize badMap badMapField badMapRecord badGpioRecord badBoardType reservedUsed badInside badGpio shapeAt shapeOf listedShape endAt round16 next mapAt boardAt laterAt records visit chain first nth tab le16 le32 le64 sixteenAt nonzero isText isLabelText textEnd badLabel listed picked all same crc32 shift shifts step32
 logoless-other = (4, refl)
 
 -- they differ in Crc32 and inside the structure at E0h
 logos : SameOutside Board instances.logoless instances.one instances.other
-unfolding answers hidden itemNumbered listOf entryAt onward stepOn stepAt walked stepNumbered mapRecordNumbered gpioRecordNumbered restAt eepromAt eeprMapAt brdInfoAt itemAt mapRecordAt gpioRecordAt judged rule20 rule21 rule22 rule23 rule24 rule25 rule26 rule27 rule28 rule29 rule30 rule31 rule32 rule33 misplaced gapUsed expected outOfOrder promSigAt covered checkOver badMapHead badBoardHead badPromSigHead badHash badHashOf hashSize badMap badMapField badMapRecord badGpioRecord badBoardType reservedUsed badInside badGpio shapeAt shapeOf listedShape endAt round16 next mapAt boardAt laterAt records visit chain first nth tab le16 le32 le64 sixteenAt nonzero isText isLabelText textEnd badLabel listed picked all same crc32 shift shifts step32
+unfolding answers hidden itemNumbered listOf entryAt onward moved step-shown walked stepNumbered mapRecordNumbered gpioRecordNumbered restAt eepromAt eeprMapAt brdInfoAt itemAt mapRecordAt gpioRecordAt judged rule20 rule21 rule22 rule23 rule24 rule25 rule26 rule27 rule28 rule29 rule30 rule31 rule32 rule33 misplaced gapUsed expected outOfOrder promSigAt covered checkOver badMapHead badBoardHead badPromSigHead badHash badHashOf hashSize badMap badMapField badMapRecord badGpioRecord badBoardType reservedUsed badInside badGpio shapeAt shapeOf listedShape endAt round16 next mapAt boardAt laterAt records visit chain first nth tab le16 le32 le64 sixteenAt nonzero isText isLabelText textEnd badLabel listed picked all same crc32 shift shifts step32
 logos =
     record {
       length = refl;
@@ -100,5 +100,5 @@ record Seen : Type 0 where
   refuses : answers Board full instances.other .judge ≡ refused 32 0xF0
 
 seen : Seen
-unfolding answers hidden itemNumbered listOf entryAt onward stepOn stepAt walked stepNumbered mapRecordNumbered gpioRecordNumbered restAt eepromAt eeprMapAt brdInfoAt itemAt mapRecordAt gpioRecordAt judged rule20 rule21 rule22 rule23 rule24 rule25 rule26 rule27 rule28 rule29 rule30 rule31 rule32 rule33 misplaced gapUsed expected outOfOrder promSigAt covered checkOver badMapHead badBoardHead badPromSigHead badHash badHashOf hashSize badMap badMapField badMapRecord badGpioRecord badBoardType reservedUsed badInside badGpio shapeAt shapeOf listedShape endAt round16 next mapAt boardAt laterAt records visit chain first nth tab le16 le32 le64 sixteenAt nonzero isText isLabelText textEnd badLabel listed picked all same crc32 shift shifts step32
+unfolding answers hidden itemNumbered listOf entryAt onward moved step-shown walked stepNumbered mapRecordNumbered gpioRecordNumbered restAt eepromAt eeprMapAt brdInfoAt itemAt mapRecordAt gpioRecordAt judged rule20 rule21 rule22 rule23 rule24 rule25 rule26 rule27 rule28 rule29 rule30 rule31 rule32 rule33 misplaced gapUsed expected outOfOrder promSigAt covered checkOver badMapHead badBoardHead badPromSigHead badHash badHashOf hashSize badMap badMapField badMapRecord badGpioRecord badBoardType reservedUsed badInside badGpio shapeAt shapeOf listedShape endAt round16 next mapAt boardAt laterAt records visit chain first nth tab le16 le32 le64 sixteenAt nonzero isText isLabelText textEnd badLabel listed picked all same crc32 shift shifts step32
 seen = record { known = refl; unknown = refl; step = refl; refuses = refl }

@@ -34,7 +34,7 @@ use Rattle.reader.specs.Entries.{entryAt}
 use Rattle.reader.specs.Formats.{places}
 use Rattle.reader.specs.Values as reader
 use Rattle.reader.specs.Values.{ItemValues, FieldValues}
-use Rattle.reader.specs.Walk.{stepOn, stepAt, walked, stepNumbered}
+use Rattle.reader.specs.Walk.{moved, shown as step-shown, walked, stepNumbered}
 use Rattle.reader.specs.declared.Entry.{Entry}
 use Rattle.reader.specs.declared.Format.the-variants.{Tiny}
 use Rattle.tiny.specs.Answers.{stringNumbered, nameOf}
@@ -52,23 +52,23 @@ use Rattle.verdict.specs.Said.{says, refused}
 
 -- ---- 01 off the list; then 11 off the list, and other flags
 accepts-one : Accepted (answers Tiny full instances.one)
-unfolding answers hidden itemNumbered listOf entryAt onward stepOn stepAt walked stepNumbered judged rule1 rule2 rule3 rule4 rule5 rule6 rule7 rule8 rule9 rule10 rule11 badIndex isMajor badRevision badBatch stringNumbered nameOf itemAt identityAt batchedAt poolShown majorText first visit chain keep only nth next headSize dataLength pool split texts stringEnd reference shapeOf tab le16 crc8 reduce bring bitsOf bitsOfAll listed picked all same isText
+unfolding answers hidden itemNumbered listOf entryAt onward moved step-shown walked stepNumbered judged rule1 rule2 rule3 rule4 rule5 rule6 rule7 rule8 rule9 rule10 rule11 badIndex isMajor badRevision badBatch stringNumbered nameOf itemAt identityAt batchedAt poolShown majorText first visit chain keep only nth next headSize dataLength pool split texts stringEnd reference shapeOf tab le16 crc8 reduce bring bitsOf bitsOfAll listed picked all same isText
 accepts-one = (3, refl)
 
 readers-one : TwoReaders Tiny full (without (Tag 0x01)) instances.one
 readers-one = demand3 Tiny .readers full (without (Tag 0x01)) (full-contains (without (Tag 0x01))) instances.one accepts-one
 
 flagless-one : Accepted (answers Tiny (without (Tag 0x11)) instances.one)
-unfolding answers hidden itemNumbered listOf entryAt onward stepOn stepAt walked stepNumbered judged rule1 rule2 rule3 rule4 rule5 rule6 rule7 rule8 rule9 rule10 rule11 badIndex isMajor badRevision badBatch stringNumbered nameOf itemAt identityAt batchedAt poolShown majorText first visit chain keep only nth next headSize dataLength pool split texts stringEnd reference shapeOf tab le16 crc8 reduce bring bitsOf bitsOfAll listed picked all same isText
+unfolding answers hidden itemNumbered listOf entryAt onward moved step-shown walked stepNumbered judged rule1 rule2 rule3 rule4 rule5 rule6 rule7 rule8 rule9 rule10 rule11 badIndex isMajor badRevision badBatch stringNumbered nameOf itemAt identityAt batchedAt poolShown majorText first visit chain keep only nth next headSize dataLength pool split texts stringEnd reference shapeOf tab le16 crc8 reduce bring bitsOf bitsOfAll listed picked all same isText
 flagless-one = (3, refl)
 
 flagless-other : Accepted (answers Tiny (without (Tag 0x11)) instances.other)
-unfolding answers hidden itemNumbered listOf entryAt onward stepOn stepAt walked stepNumbered judged rule1 rule2 rule3 rule4 rule5 rule6 rule7 rule8 rule9 rule10 rule11 badIndex isMajor badRevision badBatch stringNumbered nameOf itemAt identityAt batchedAt poolShown majorText first visit chain keep only nth next headSize dataLength pool split texts stringEnd reference shapeOf tab le16 crc8 reduce bring bitsOf bitsOfAll listed picked all same isText
+unfolding answers hidden itemNumbered listOf entryAt onward moved step-shown walked stepNumbered judged rule1 rule2 rule3 rule4 rule5 rule6 rule7 rule8 rule9 rule10 rule11 badIndex isMajor badRevision badBatch stringNumbered nameOf itemAt identityAt batchedAt poolShown majorText first visit chain keep only nth next headSize dataLength pool split texts stringEnd reference shapeOf tab le16 crc8 reduce bring bitsOf bitsOfAll listed picked all same isText
 flagless-other = (3, refl)
 
 -- they differ in the check byte, at 13, and at 6, inside the flags at 5
 differ : SameOutside Tiny (without (Tag 0x11)) instances.one instances.other
-unfolding answers hidden itemNumbered listOf entryAt onward stepOn stepAt walked stepNumbered judged rule1 rule2 rule3 rule4 rule5 rule6 rule7 rule8 rule9 rule10 rule11 badIndex isMajor badRevision badBatch stringNumbered nameOf itemAt identityAt batchedAt poolShown majorText first visit chain keep only nth next headSize dataLength pool split texts stringEnd reference shapeOf tab le16 crc8 reduce bring bitsOf bitsOfAll listed picked all same isText
+unfolding answers hidden itemNumbered listOf entryAt onward moved step-shown walked stepNumbered judged rule1 rule2 rule3 rule4 rule5 rule6 rule7 rule8 rule9 rule10 rule11 badIndex isMajor badRevision badBatch stringNumbered nameOf itemAt identityAt batchedAt poolShown majorText first visit chain keep only nth next headSize dataLength pool split texts stringEnd reference shapeOf tab le16 crc8 reduce bring bitsOf bitsOfAll listed picked all same isText
 differ = record { length = refl; bytes = λ q h. go q (one-of-three instances.one instances.other (λ x. eqb x 13) (λ x. eqb x 6) 14 refl q h) }
   where
     flags : (q : ℕ) → q ≡ 6 → InsideUnknown Tiny (without (Tag 0x11)) instances.one q
@@ -85,7 +85,7 @@ images-one = demand3 Tiny .images (without (Tag 0x11)) instances.one instances.o
 
 -- to a reader that knows flags these two are no such images: nothing of them is inside an item that it does not know
 told-apart : SameOutside Tiny full instances.one instances.other → ⊥
-unfolding answers hidden itemNumbered listOf entryAt onward stepOn stepAt walked stepNumbered judged rule1 rule2 rule3 rule4 rule5 rule6 rule7 rule8 rule9 rule10 rule11 badIndex isMajor badRevision badBatch stringNumbered nameOf itemAt identityAt batchedAt poolShown majorText first visit chain keep only nth next headSize dataLength pool split texts stringEnd reference shapeOf tab le16 crc8 reduce bring bitsOf bitsOfAll listed picked all same isText
+unfolding answers hidden itemNumbered listOf entryAt onward moved step-shown walked stepNumbered judged rule1 rule2 rule3 rule4 rule5 rule6 rule7 rule8 rule9 rule10 rule11 badIndex isMajor badRevision badBatch stringNumbered nameOf itemAt identityAt batchedAt poolShown majorText first visit chain keep only nth next headSize dataLength pool split texts stringEnd reference shapeOf tab le16 crc8 reduce bring bitsOf bitsOfAll listed picked all same isText
 told-apart same = go (same .bytes 6 (omega arith))
   where
     go : (byte instances.one 6 ≡ byte instances.other 6) ⊎ (InCheck Tiny instances.one 6 ⊎ InsideUnknown Tiny full instances.one 6) → ⊥
@@ -125,7 +125,7 @@ full-sees : instances.seen (answers Tiny full instances.one)
       strings = says (values.text top1) ∷ refused 42 0 ∷ refused 42 0 ∷ [];
       names = (says 4, 0x74 ∷ 0x6F ∷ 0x70 ∷ 0x31 ∷ 5 ∷ []) ∷ (refused 43 0, 1 ∷ []) ∷ [];
     }
-unfolding answers hidden itemNumbered listOf entryAt onward stepOn stepAt walked stepNumbered judged rule1 rule2 rule3 rule4 rule5 rule6 rule7 rule8 rule9 rule10 rule11 badIndex isMajor badRevision badBatch stringNumbered nameOf itemAt identityAt batchedAt poolShown majorText first visit chain keep only nth next headSize dataLength pool split texts stringEnd reference shapeOf tab le16 crc8 reduce bring bitsOf bitsOfAll listed picked all same isText
+unfolding answers hidden itemNumbered listOf entryAt onward moved step-shown walked stepNumbered judged rule1 rule2 rule3 rule4 rule5 rule6 rule7 rule8 rule9 rule10 rule11 badIndex isMajor badRevision badBatch stringNumbered nameOf itemAt identityAt batchedAt poolShown majorText first visit chain keep only nth next headSize dataLength pool split texts stringEnd reference shapeOf tab le16 crc8 reduce bring bitsOf bitsOfAll listed picked all same isText
 full-sees = refl
 
 poolless-sees : instances.seen (answers Tiny (without (Tag 0x01)) instances.one)
@@ -139,5 +139,5 @@ poolless-sees : instances.seen (answers Tiny (without (Tag 0x01)) instances.one)
       strings = says values.undecodable ∷ says values.undecodable ∷ says values.undecodable ∷ [];
       names = (refused 44 0, 1 ∷ 2 ∷ 3 ∷ 4 ∷ 5 ∷ []) ∷ (refused 44 0, 1 ∷ []) ∷ [];
     }
-unfolding answers hidden itemNumbered listOf entryAt onward stepOn stepAt walked stepNumbered judged rule1 rule2 rule3 rule4 rule5 rule6 rule7 rule8 rule9 rule10 rule11 badIndex isMajor badRevision badBatch stringNumbered nameOf itemAt identityAt batchedAt poolShown majorText first visit chain keep only nth next headSize dataLength pool split texts stringEnd reference shapeOf tab le16 crc8 reduce bring bitsOf bitsOfAll listed picked all same isText
+unfolding answers hidden itemNumbered listOf entryAt onward moved step-shown walked stepNumbered judged rule1 rule2 rule3 rule4 rule5 rule6 rule7 rule8 rule9 rule10 rule11 badIndex isMajor badRevision badBatch stringNumbered nameOf itemAt identityAt batchedAt poolShown majorText first visit chain keep only nth next headSize dataLength pool split texts stringEnd reference shapeOf tab le16 crc8 reduce bring bitsOf bitsOfAll listed picked all same isText
 poolless-sees = refl

@@ -26,7 +26,7 @@ use Rattle.reader.specs.Answers.{itemNumbered, listOf}
 use Rattle.reader.specs.Entries.{entryAt}
 use Rattle.reader.specs.Values as reader
 use Rattle.reader.specs.Values.{ItemValues, StepValues, FieldValues}
-use Rattle.reader.specs.Walk.{stepOn, stepAt, walked, stepNumbered}
+use Rattle.reader.specs.Walk.{moved, shown, walked, stepNumbered}
 use Rattle.reader.specs.declared.Entry.{Entry}
 use Rattle.reader.specs.declared.Format.the-variants.{Tiny}
 use Rattle.tiny.specs.Answers.{stringNumbered, nameOf}
@@ -168,6 +168,6 @@ instances =
     ∷ []
 
 instances-hold : All Holds instances
-unfolding answers hidden itemNumbered listOf entryAt onward stepOn stepAt walked stepNumbered judged rule1 rule2 rule3 rule4 rule5 rule6 rule7 rule8 rule9 rule10 rule11 badIndex isMajor badRevision badBatch stringNumbered nameOf itemAt identityAt batchedAt poolShown majorText first visit chain keep only nth next headSize dataLength pool split texts stringEnd reference shapeOf tab le16 crc8 reduce bring bitsOf bitsOfAll listed picked all same isText
+unfolding answers hidden itemNumbered listOf entryAt onward moved shown walked stepNumbered judged rule1 rule2 rule3 rule4 rule5 rule6 rule7 rule8 rule9 rule10 rule11 badIndex isMajor badRevision badBatch stringNumbered nameOf itemAt identityAt batchedAt poolShown majorText first visit chain keep only nth next headSize dataLength pool split texts stringEnd reference shapeOf tab le16 crc8 reduce bring bitsOf bitsOfAll listed picked all same isText
 instances-hold =
     (refl, (refl, (refl, (refl, (refl, (refl, (refl, (refl, (refl, (refl, (refl, (refl, (refl, (refl, (refl, (refl, (refl, (refl, (refl, (refl, tt))))))))))))))))))))

@@ -25,14 +25,11 @@ use Rattle.reader.proofs.Position as P
 use Rattle.reader.proofs.Position.Laws as P′
 use Rattle.reader.proofs.StepAnswer as S
 use Rattle.reader.proofs.StepAnswer.Laws as S′
-use Rattle.reader.proofs.Stepped as D
-use Rattle.reader.proofs.Stepped.Laws as D′
 use Rattle.reader.proofs.Walk as T
 use Rattle.reader.proofs.Walk.Laws as T′
 use Rattle.reader.specs.declared.Format.{Format}
 use Rattle.reader.specs.declared.Position.{Position}
 use Rattle.reader.specs.declared.StepAnswer.{StepAnswer}
-use Rattle.reader.specs.declared.Stepped.{Stepped}
 use Rattle.reader.specs.declared.Walk.{Walk}
 use Rattle.tiny_layout.proofs.Pool as Pool
 use Rattle.verdict.proofs.Judged as J
@@ -65,15 +62,15 @@ kinds = typeOf K.the-row
 unfoldable pub judged : Ty
 judged = typeOf J.the-row
 
+abbrev pub pool : Ty
+pool = typeOf Pool.the-row
+
 unfoldable pub answer : Ty
 answer = typeOf S.the-row
 
 -- of a struct whose fields are read the fields stand open
 abbrev pub position : Ty
-position = tyStruct (P.struct .name) (tcons judged (tcons (typeOf Pool.the-row) (tcons (tyInt w32) tnil)))
-
-abbrev pub stepped : Ty
-stepped = tyStruct (D.struct .name) (tcons position (tcons answer tnil))
+position = tyStruct (P.struct .name) (tcons judged (tcons pool (tcons (tyInt w32) (tcons (tyInt w32) tnil))))
 
 abbrev pub walk : NamedLft → Ty
 walk α = tyStruct (T.struct α .name) (tcons (image α) (tcons format (tcons kinds (tcons position (tcons answer tnil)))))
@@ -102,10 +99,6 @@ module _ {M : Type 1} (𝓤 : URA M) (H : Heap 𝓤) (A : Atoms 𝓤) (W : Given
   pub position-typed : (x : Position) → Is P.the-row x (u ∷ []) → Typed position u
   unfolding judged
   position-typed x is = LL.lawful P.the-type P′.the-laws 𝓤 H A W .typed x (u ∷ []) is .0
-
-  pub stepped-typed : (x : Stepped) → Is D.the-row x (u ∷ []) → Typed stepped u
-  unfolding judged answer
-  stepped-typed x is = LL.lawful D.the-type D′.the-laws 𝓤 H A W .typed x (u ∷ []) is .0
 
   pub walk-typed : (α : NamedLft) (x : Walk) → Is (T.the-row α) x (u ∷ []) → Typed (walk α) u
   unfolding format kinds judged answer

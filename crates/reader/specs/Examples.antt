@@ -11,7 +11,7 @@ use Rattle.crc.specs.Crc8.{crc8, reduce, bring, bitsOf, bitsOfAll}
 use Rattle.kinds.specs.Kinds.{listed, all, full, bare}
 use Rattle.reader.specs.Answers.{refusedWith, listOf}
 use Rattle.reader.specs.Entries.{entryAt}
-use Rattle.reader.specs.Walk.{stepOn, stepAt}
+use Rattle.reader.specs.Walk.{moved, shown, after}
 use Rattle.reader.specs.declared.Entry.{Entry}
 use Rattle.reader.specs.declared.Format.the-variants.{Tiny}
 use Rattle.reader.specs.declared.Item.{Item}
@@ -41,9 +41,13 @@ flags = record { kind = 0x11; place = 3; length = 1; known = true }
 abbrev nothingLent : Refusal
 nothingLent = record { number = 1; place = 0 }
 
--- a position that carries this verdict and stands at this place; there is no pool
-abbrev at : Judged → ℕ → Position
-at verdict place = record { verdict = verdict; pool = record { from = 0; to = 0 }; at = place }
+-- a position that carries this verdict and stands at this place, where the items end at `end`; there is no pool
+abbrev at : Judged → ℕ → ℕ → Position
+at verdict end place = record { verdict = verdict; pool = record { from = 0; to = 0 }; end = end; at = place }
+
+-- a step over case 5: how far it then is, and what it shows
+abbrev step : Position → Position × StepAnswer
+step x = (after Tiny case5 x, shown Tiny full case5 x)
 
 record Computed : Type 0 where
   -- one entry is filled, and the rest stays
@@ -54,15 +58,27 @@ record Computed : Type 0 where
   short : listOf Tiny full case5 [] ≡ (ListAnswer.Refused (refusedWith 43), [])
   refused : listOf Tiny full [] (lent ∷ []) ≡ (ListAnswer.Refused nothingLent, lent ∷ [])
   -- a position with any count goes by its place: an item there, and then the end of the items
-  shown : stepAt Tiny full case5 (at (Judged.Accepted 7) 3)
-      ≡ record { position = at (Judged.Accepted 7) 5; shows = StepAnswer.Shown (Item.Tiny (record { tag = 0x11; place = 3; length = 1; item = tiny.Item.Flags 0x0F })) }
+  shows : step (at (Judged.Accepted 7) 5 3)
+      ≡ (at (Judged.Accepted 7) 5 5, StepAnswer.Shown (Item.Tiny (record { tag = 0x11; place = 3; length = 1; item = tiny.Item.Flags 0x0F })))
   -- at the end and past it none is left, and the position stays
-  ended : stepAt Tiny full case5 (at (Judged.Accepted 7) 5) ≡ record { position = at (Judged.Accepted 7) 5; shows = StepAnswer.NoneLeft }
-  past : stepAt Tiny full case5 (at (Judged.Accepted 7) 200) ≡ record { position = at (Judged.Accepted 7) 200; shows = StepAnswer.NoneLeft }
+  ended : step (at (Judged.Accepted 7) 5 5) ≡ (at (Judged.Accepted 7) 5 5, StepAnswer.NoneLeft)
+  past : step (at (Judged.Accepted 7) 5 200) ≡ (at (Judged.Accepted 7) 5 200, StepAnswer.NoneLeft)
+  -- the end is the one that the position carries
+  carried : step (at (Judged.Accepted 7) 3 3) ≡ (at (Judged.Accepted 7) 3 3, StepAnswer.NoneLeft)
   -- a position with a refusal shows it, whatever the image is
-  stays : stepAt Tiny full case5 (at (Judged.Refused nothingLent) 3) ≡ record { position = at (Judged.Refused nothingLent) 3; shows = StepAnswer.Refused nothingLent }
+  stays : step (at (Judged.Refused nothingLent) 5 3) ≡ (at (Judged.Refused nothingLent) 5 3, StepAnswer.Refused nothingLent)
 
 computed : Computed
-unfolding listOf entryAt stepAt stepOn onward judged rule1 rule2 rule3 rule4 rule5 rule6 rule7 rule8 rule9 rule10 rule11 badIndex itemAt first visit chain next headSize dataLength pool split texts shapeOf tab crc8 reduce bring bitsOf bitsOfAll listed all
+unfolding listOf entryAt moved shown onward judged rule1 rule2 rule3 rule4 rule5 rule6 rule7 rule8 rule9 rule10 rule11 badIndex itemAt first visit chain next headSize dataLength pool split texts shapeOf tab crc8 reduce bring bitsOf bitsOfAll listed all
 computed =
-    record { filled = refl; unknown = refl; short = refl; refused = refl; shown = refl; ended = refl; past = refl; stays = refl }
+    record {
+      filled = refl;
+      unknown = refl;
+      short = refl;
+      refused = refl;
+      shows = refl;
+      ended = refl;
+      past = refl;
+      carried = refl;
+      stays = refl;
+    }

@@ -5,26 +5,21 @@ use super::ListAnswer;
 use super::judge;
 use super::layout::first_place;
 use super::layout::go_on;
+use super::layout::items_end;
+use board_layout::head_at;
+use board_layout::is_known;
+use board_layout::shape_of;
 use kinds::Kinds;
 use octets::byte_at;
-use octets::le64_at;
+use tiny_layout::data_length;
 use verdict::Judged;
 use verdict::Refusal;
 ghost use mathlib.Core.Path.{_≡_};
 ghost use Prim.Native.Nat.{_-_};
 ghost use Rattle.reader.specs.Entries.{entryAt};
-ghost use Rattle.reader.specs.Formats.{kindAt, lengthAt, known, judged};
+ghost use Rattle.reader.specs.Formats.{judged};
 ghost use Rattle.reader.specs.Answers.{listAnswer, entryCount, listOf};
-
-// The kind of the item at a place.
-fn kind_at(format: Format, image: &[u8], at: u32) -> u64
-    ensures { λ r. ⌜ r ≡ kindAt format (now (image .entry)) at ⌝ }
-{
-    match format {
-        Format::Tiny => byte_at(image, at as usize) as u64,
-        Format::Board => le64_at(image, at as usize),
-    }
-}
+ghost use Rattle.reader.specs.declared.Format.{Format};
 
 // How many data bytes a structure of this Length has past its generic head.
 fn past_head(length: u32) -> usize
@@ -36,23 +31,30 @@ fn past_head(length: u32) -> usize
     (length - 16) as usize
 }
 
-// The data length of the item at a place.
-fn length_at(format: Format, image: &[u8], at: u32) -> usize
-    ensures { λ r. ⌜ r ≡ lengthAt format (now (image .entry)) at ⌝ }
+// The entry of the item at a place of a tiny image.
+fn tiny_entry(image: &[u8], kinds: Kinds, at: u32) -> Entry
+    ensures { λ r. ⌜ r ≡ entryAt Format.Tiny kinds (now (image .entry)) at ⌝ }
 {
-    match format {
-        Format::Tiny => tiny_layout::data_length(image, at as usize) as usize,
-        Format::Board => past_head(board_layout::length_at(image, at)),
+    let place = at as usize;
+    let tag = byte_at(image, place);
+    Entry {
+        kind: tag as u64,
+        place,
+        length: data_length(image, place) as usize,
+        known: kinds.has_tag(tag),
     }
 }
 
-// Whether a reader with this list knows the item at a place.
-fn known_at(format: Format, image: &[u8], kinds: Kinds, at: u32) -> bool
-    ensures { λ r. ⌜ r ≡ known format kinds (now (image .entry)) at ⌝ }
+// The entry of the structure at a place of a board image.
+fn board_entry(image: &[u8], kinds: Kinds, at: u32) -> Entry
+    ensures { λ r. ⌜ r ≡ entryAt Format.Board kinds (now (image .entry)) at ⌝ }
 {
-    match format {
-        Format::Tiny => kinds.has_tag(byte_at(image, at as usize)),
-        Format::Board => board_layout::is_known(kinds, board_layout::shape_at(image, at)),
+    let head = head_at(image, at);
+    Entry {
+        kind: head.signature,
+        place: at as usize,
+        length: past_head(head.length),
+        known: is_known(kinds, shape_of(head.signature, head.major)),
     }
 }
 
@@ -60,11 +62,9 @@ fn known_at(format: Format, image: &[u8], kinds: Kinds, at: u32) -> bool
 fn entry_at(format: Format, image: &[u8], kinds: Kinds, at: u32) -> Entry
     ensures { λ r. ⌜ r ≡ entryAt format kinds (now (image .entry)) at ⌝ }
 {
-    Entry {
-        kind: kind_at(format, image, at),
-        place: at as usize,
-        length: length_at(format, image, at),
-        known: known_at(format, image, kinds, at),
+    match format {
+        Format::Tiny => tiny_entry(image, kinds, at),
+        Format::Board => board_entry(image, kinds, at),
     }
 }
 
@@ -103,11 +103,12 @@ pub fn list(format: Format, image: &[u8], kinds: Kinds, out: &mut [Entry]) -> Li
 {
     let answer = list_answer(format, image, kinds, out.len());
     let count = entry_count(answer);
+    let end = items_end(format, image);
     let mut at = first_place(format);
     let mut i = 0;
     while i < count {
         out[i] = entry_at(format, image, kinds, at);
-        at = go_on(format, image, at);
+        at = go_on(format, image, end, at);
         i = i + 1;
     }
     answer

@@ -34,11 +34,10 @@ fn next_from(format: Format, image: &[u8], at: u32) -> usize
     }
 }
 
-// Where a walk goes on from a place: to the next item, or to the end.
-pub fn go_on(format: Format, image: &[u8], at: u32) -> u32
-    ensures { λ r. ⌜ r ≡ onward (next format (now (image .entry))) (end format (now (image .entry))) at ⌝ }
+// Where a walk goes on from a place, if the items end at `end`: to the next item, or to the end.
+pub fn go_on(format: Format, image: &[u8], end: u32, at: u32) -> u32
+    ensures { λ r. ⌜ r ≡ onward (next format (now (image .entry))) end at ⌝ }
 {
-    let end = items_end(format, image);
     if end <= at {
         return at;
     }

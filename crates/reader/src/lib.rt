@@ -51,10 +51,11 @@ pub enum ItemAnswer {
     Refused(Refusal),
 }
 
-// How far a walk is: the verdict on its image, the pool that its items' strings lie in, and the place of the next item, or the end of the items.
+// How far a walk is: the verdict on its image, the pool that its items' strings lie in, where the items end, and the place of the next item, or that end.
 pub struct Position {
     pub verdict: Judged,
     pub pool: tiny_layout::Pool,
+    pub end: u32,
     pub at: u32,
 }
 
@@ -64,12 +65,6 @@ pub enum StepAnswer {
     Shown(Item),
     NoneLeft,
     Refused(Refusal),
-}
-
-// How far a walk is after a step, and what the step shows.
-pub struct Stepped {
-    pub position: Position,
-    pub shows: StepAnswer,
 }
 
 // A walk over a lent image: the image, its format, the reader's list, how far it is, and what its last step showed.

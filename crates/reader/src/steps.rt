@@ -1,9 +1,8 @@
-// The walk. `fresh`, `step` and `step_numbered` are over a struct that holds the lent image and are proved by hand; what a step does is `step_at`.
+// The walk. `fresh`, `step` and `step_numbered` are over a struct that holds the lent image and are proved by hand; what a step does is `moved` and `shown`.
 use super::Format;
 use super::Item;
 use super::Position;
 use super::StepAnswer;
-use super::Stepped;
 use super::Walk;
 use super::items::pool_of;
 use super::judge;
@@ -14,67 +13,59 @@ use kinds::Kinds;
 use tiny_layout::Pool;
 use verdict::Judged;
 ghost use mathlib.Core.Path.{_≡_};
-ghost use Prim.Native.Nat.{_<_};
-ghost use Rattle.reader.specs.Formats.{end};
 ghost use Rattle.reader.specs.Items.{itemAt};
-ghost use Rattle.reader.specs.Walk.{first, stepOn, stepAt, freshWalk, stepped, stepNumbered, stepsDue};
+ghost use Rattle.reader.specs.Walk.{first, moved, shown, freshWalk, stepped, stepNumbered, stepsDue};
 
-// Where a walk begins: the image is judged and its pool is found, once.
+// Where a walk begins: the image is judged, its pool and the end of its items are found, once.
 fn first_position(format: Format, image: &[u8], kinds: Kinds) -> Position
     ensures { λ r. ⌜ r ≡ first format kinds (now (image .entry)) ⌝ }
 {
     Position {
         verdict: judge(format, image, kinds),
         pool: pool_of(format, image, kinds),
+        end: items_end(format, image),
         at: first_place(format),
     }
 }
 
-// The item at a place before the end of the items.
+// The item at a place.
 fn item_at(format: Format, image: &[u8], kinds: Kinds, pool: Pool, at: u32) -> Item
-    requires { ⌜ at < end format (now image) ⌝ }
     ensures { λ r. ⌜ r ≡ itemAt format kinds (now (image .entry)) pool at ⌝ }
 {
     match format {
-        Format::Tiny => Item::Tiny(tiny::item_at(image, kinds, pool, at as u8)),
+        Format::Tiny => Item::Tiny(tiny::item_at(image, kinds, pool, at)),
         Format::Board => Item::Board(board::item_at(image, kinds, at)),
     }
 }
 
-// A step over an image that is accepted, or said to be.
-fn step_on(format: Format, image: &[u8], kinds: Kinds, position: Position) -> Stepped
-    ensures { λ r. ⌜ r ≡ stepOn format kinds (now (image .entry)) position ⌝ }
+// Where a step from any position leads: over an accepted image to the next item or to the end; over a refused one the walk stays.
+fn moved(format: Format, image: &[u8], position: Position) -> u32
+    ensures { λ r. ⌜ r ≡ moved format (now (image .entry)) position ⌝ }
+{
+    let at = position.at;
+    let end = position.end;
+    let verdict = position.verdict;
+    match verdict {
+        Judged::Accepted(_) => go_on(format, image, end, at),
+        Judged::Refused(_) => at,
+    }
+}
+
+// What a step from any position shows: the item that it stands at, that none is left, or the refusal.
+fn shown(format: Format, image: &[u8], kinds: Kinds, position: Position) -> StepAnswer
+    ensures { λ r. ⌜ r ≡ shown format kinds (now (image .entry)) position ⌝ }
 {
     let at = position.at;
     let pool = position.pool;
     let verdict = position.verdict;
-    if at < items_end(format, image) {
-        return Stepped {
-            position: Position {
-                verdict,
-                pool,
-                at: go_on(format, image, at),
-            },
-            shows: StepAnswer::Shown(item_at(format, image, kinds, pool, at)),
-        };
-    }
-    Stepped {
-        position,
-        shows: StepAnswer::NoneLeft,
-    }
-}
-
-// A step from any position: how far it then is, and what it shows.
-fn step_at(format: Format, image: &[u8], kinds: Kinds, position: Position) -> Stepped
-    ensures { λ r. ⌜ r ≡ stepAt format kinds (now (image .entry)) position ⌝ }
-{
-    let verdict = position.verdict;
     match verdict {
-        Judged::Accepted(_) => step_on(format, image, kinds, position),
-        Judged::Refused(refusal) => Stepped {
-            position,
-            shows: StepAnswer::Refused(refusal),
-        },
+        Judged::Accepted(_) => {
+            if at < position.end {
+                return StepAnswer::Shown(item_at(format, image, kinds, pool, at));
+            }
+            StepAnswer::NoneLeft
+        }
+        Judged::Refused(refusal) => StepAnswer::Refused(refusal),
     }
 }
 
@@ -95,13 +86,22 @@ pub fn fresh<'a>(format: Format, image: &'a [u8], kinds: Kinds) -> Walk<'a>
 pub fn step<'a>(walk: Walk<'a>) -> Walk<'a>
     ensures { λ r. ⌜ r ≡ stepped (walk .entry) ⌝ }
 {
-    let got = step_at(walk.format, walk.image, walk.kinds, walk.position);
+    let image = walk.image;
+    let format = walk.format;
+    let kinds = walk.kinds;
+    let position = walk.position;
+    let at = moved(format, image, position);
     Walk {
-        image: walk.image,
-        format: walk.format,
-        kinds: walk.kinds,
-        position: got.position,
-        shows: got.shows,
+        image,
+        format,
+        kinds,
+        position: Position {
+            verdict: position.verdict,
+            pool: position.pool,
+            end: position.end,
+            at,
+        },
+        shows: shown(format, image, kinds, position),
     }
 }
 
@@ -126,9 +126,8 @@ pub fn step_numbered(format: Format, image: &[u8], kinds: Kinds, number: usize) 
 {
     let mut walk = fresh(format, image, kinds);
     let due = steps_due(walk.position.verdict, number);
-    walk = step(walk);
     let mut i = 0;
-    while i < due {
+    while i <= due {
         walk = step(walk);
         i = i + 1;
     }

@@ -1,21 +1,27 @@
--- `entries::entry_at` meets its contract, field by field. Assumes nothing.
+-- `entries::entry_at` meets its contract: the arm of each format. Assumes nothing.
 use borrow.Author.Needs.{needs}
 use Rattle.reader.proofs.entries.entry_at.Statement.{statement}
 use Rattle.reader.proofs.entries.entry_at.Tie as tie
-use Rattle.reader.specs.Entries.{entryAt}
 
-kind-at-requires : tie.Need-kind-at-requires
-kind-at-requires c κs = search needs
+enum-told : tie.Need-enum-told
+enum-told c = search needs
 
-length-at-requires : tie.Need-length-at-requires
-length-at-requires c κs = search needs
+tiny-entry-requires : tie.Need-tiny-entry-requires
+tiny-entry-requires c κs = search needs
 
-known-at-requires : tie.Need-known-at-requires
-known-at-requires c κs = search needs
+enum-told-2 : tie.Need-enum-told-2
+enum-told-2 c = search needs
+
+board-entry-requires : tie.Need-board-entry-requires
+board-entry-requires c κs = search needs
 
 returns : tie.Need-returns
-unfolding entryAt
-returns c = rw (c .known-at .ensures, c .before .length-at .ensures, c .before .before .kind-at .ensures)
+returns c = rw (c .before .enum-told .given .1) (c .tiny-entry .ensures)
+
+returns-2 : tie.Need-returns-2
+returns-2 c = rw (c .before .enum-told2 .given .1) (c .board-entry .ensures)
 
 pub entry-at-spec : {M : Type 1} → statement M
-entry-at-spec = tie.close (tie.spec kind-at-requires length-at-requires known-at-requires returns)
+entry-at-spec =
+    tie.close
+    (tie.spec enum-told tiny-entry-requires enum-told-2 board-entry-requires returns returns-2)

@@ -78,6 +78,9 @@ use Rattle.reader.proofs.layout.first_place.Symbol.{name as #first-plac
 use Rattle.reader.proofs.layout.go_on as go-on
 use Rattle.reader.proofs.layout.go_on.Met as go-on-thm
 use Rattle.reader.proofs.layout.go_on.Symbol.{name as #go-on}
+use Rattle.reader.proofs.layout.items_end as items-end
+use Rattle.reader.proofs.layout.items_end.Met as items-end-thm
+use Rattle.reader.proofs.layout.items_end.Symbol.{name as #items-end}
 use Rattle.reader.specs.Answers.{listAnswer, entryCount}
 use Rattle.reader.specs.Entries.{entryAt}
 use Rattle.reader.specs.Formats.{judged, start, end, next}
@@ -107,6 +110,7 @@ record Turn (place : ℕ → ℕ) (n : ℕ) : Type 0 where
 record Known {M : Type 1} (𝓤 : URA M) (H : Heap 𝓤) (A : Atoms 𝓤) (mem : Memory → SProp 𝓤) (run : Routine → Fun 𝓤) (𝓣 : Tables 𝓤 H) : Type 2 where
   answers : Meets 𝓤 H A list-answer.signature (𝓣 .C #list-answer) (list-answer.spec 𝓤 H A mem run)
   bounds : Meets 𝓤 H A entry-count.signature (𝓣 .C #entry-count) (entry-count.spec 𝓤 H A mem run)
+  closes : Meets 𝓤 H A items-end.signature (𝓣 .C #items-end) (items-end.spec 𝓤 H A mem run)
   starts : Meets 𝓤 H A first-place.signature (𝓣 .C #first-place) (first-place.spec 𝓤 H A mem run)
   enters : Meets 𝓤 H A entry-at.signature (𝓣 .C #entry-at) (entry-at.spec 𝓤 H A mem run)
   steps : Meets 𝓤 H A go-on.signature (𝓣 .C #go-on) (go-on.spec 𝓤 H A mem run)
@@ -159,7 +163,10 @@ module _ {M : Type 1} (𝓤 : URA M) (H : Heap 𝓤) (A : Atoms 𝓤) (W : Given
   n-le : n ≤ length ys
   n-le = count-room (length ys) (judged x k (now s))
 
-  -- where turn i reads, and the lent list before it
+  -- where the items end, where turn i reads, and the lent list before it
+  abbrev last : ℕ
+  last = end x (now s)
+
   abbrev place : ℕ → ℕ
   place = placeOf x (now s)
 
@@ -177,6 +184,11 @@ module _ {M : Type 1} (𝓤 : URA M) (H : Heap 𝓤) (A : Atoms 𝓤) (W : Given
   count-of =
       calling 𝓤 H A entry-count.ended (entry-count.clauses 𝓤 H A mem run) ((tt, tt, tt, (answer, tt), (ua ∷ [], tt)), tt) (vint w64) (uint-tells w64) n refl
 
+  abbrev end-of : Call 𝓤 H A
+  end-of =
+      calling 𝓤 H A items-end.ended (items-end.clauses 𝓤 H A mem run) (((κ, tt), (q, tt), tt, (x, (s, tt)), (uf ∷ [], (us ∷ [], tt))), tt) (vint w32)
+      (uint-tells w32) last refl
+
   abbrev first-of : Call 𝓤 H A
   first-of =
       calling 𝓤 H A first-place.ended (first-place.clauses 𝓤 H A mem run) ((tt, tt, tt, (x, tt), (uf ∷ [], tt)), tt) (vint w32) (uint-tells w32) (start x) refl
@@ -189,8 +201,9 @@ module _ {M : Type 1} (𝓤 : URA M) (H : Heap 𝓤) (A : Atoms 𝓤) (W : Given
 
   abbrev step-of : ℕ → Call 𝓤 H A
   step-of p =
-      calling 𝓤 H A go-on.ended (go-on.clauses 𝓤 H A mem run) (((κ, tt), (q, tt), tt, (x, (s, (p, tt))), (uf ∷ [], (us ∷ [], (vint w32 p ∷ [], tt)))), tt)
-      (vint w32) (uint-tells w32) (onward (next x (now s)) (end x (now s)) p) refl
+      calling 𝓤 H A go-on.ended (go-on.clauses 𝓤 H A mem run)
+      (((κ, tt), (q, tt), tt, (x, (s, (last, (p, tt)))), (uf ∷ [], (us ∷ [], (vint w32 last ∷ [], (vint w32 p ∷ [], tt))))), tt)
+      (vint w32) (uint-tells w32) (onward (next x (now s)) last p) refl
 
   module _ (is-f : Is F.the-row x (uf ∷ [])) (is-s : Is (Lent.Slice α) s (us ∷ [])) (is-k : Is K.the-row k (uk ∷ [])) (room : Room R (length ys)) where
     -- ---- the exit: what the parameters own, and the answer; the borrow of the lent list is still owned, at its last list zs
@@ -212,14 +225,15 @@ module _ {M : Type 1} (𝓤 : URA M) (H : Heap 𝓤) (A : Atoms 𝓤) (W : Given
 
     module _ (𝓣 : Tables 𝓤 H) (known : Known 𝓤 H A mem run 𝓣) where
       -- ---- the loop
-      module _ (is-a : Is N.the-row answer (ua ∷ [])) (l₀ l₁ l₂ l₃ l₄ l₅ l₆ l₇ l₈ l₉ l₁₀ l₁₁ l₁₂ l₁₃ : ℕ) where
+      module _ (is-a : Is N.the-row answer (ua ∷ [])) (is-l : last < 2 ^ 32) (l₀ l₁ l₂ l₃ l₄ l₅ l₆ l₇ l₈ l₉ l₁₀ l₁₁ l₁₂ l₁₃ l₁₄ : ℕ) where
         abbrev En : Env 𝓤 H
-        En = env 𝓤 H (code.function .locals) (l₀ ∷ l₁ ∷ l₂ ∷ l₃ ∷ l₄ ∷ l₅ ∷ l₆ ∷ l₇ ∷ l₈ ∷ l₉ ∷ l₁₀ ∷ l₁₁ ∷ l₁₂ ∷ l₁₃ ∷ [])
+        En = env 𝓤 H (code.function .locals) (l₀ ∷ l₁ ∷ l₂ ∷ l₃ ∷ l₄ ∷ l₅ ∷ l₆ ∷ l₇ ∷ l₈ ∷ l₉ ∷ l₁₀ ∷ l₁₁ ∷ l₁₂ ∷ l₁₃ ∷ l₁₄ ∷ [])
 
-        -- what the locals hold before turn i, with the result u₀ and the outcome u₁₀ of the test
+        -- what the locals hold before turn i, with the result u₀ and the outcome u₁₁ of the test
         abbrev values : Option Val → ℕ → Option Val → List (Option Val)
-        values u₀ i u₁₀ =
-            u₀ ∷ some uf ∷ some us ∷ some uk ∷ some uo ∷ some ua ∷ some (vint w64 n) ∷ some (vint w32 (place i)) ∷ some (vint w64 i) ∷ none ∷ u₁₀ ∷ []
+        values u₀ i u₁₁ =
+            u₀ ∷ some uf ∷ some us ∷ some uk ∷ some uo ∷ some ua ∷ some (vint w64 n) ∷ some (vint w32 last) ∷ some (vint w32 (place i)) ∷ some (vint w64 i)
+            ∷ none ∷ u₁₁ ∷ []
 
         -- what holds before a turn: what is owned, the row at the list so far, the open borrow, and the locals from the last to the first, each with what frees it
         abbrev Inv : Turn place n → List (Item 𝓤)
@@ -229,7 +243,7 @@ module _ {M : Type 1} (𝓤 : URA M) (H : Heap 𝓤) (A : Atoms 𝓤) (W : Given
 
         -- when the loop is left, the rest of the body runs
         abbrev Left : Out → SProp 𝓤
-        Left = afterBlock 𝓤 H (afterSeq 𝓤 H (Wp 𝓤 H (𝓣 .C) (𝓣 .Λ) En piece.t-7 (atReturn 𝓤 H En Post)) (atReturn 𝓤 H En Post))
+        Left = afterBlock 𝓤 H (afterSeq 𝓤 H (Wp 𝓤 H (𝓣 .C) (𝓣 .Λ) En piece.t-8 (atReturn 𝓤 H En Post)) (atReturn 𝓤 H En Post))
 
         abbrev Goes : Turn place n → Type 1
         Goes = Turns 𝓤 H A W (λ t. t .i) n Inv 𝓣 En piece.turn-1 Left
@@ -241,23 +255,23 @@ module _ {M : Type 1} (𝓤 : URA M) (H : Heap 𝓤) (A : Atoms 𝓤) (W : Given
             let i : ℕ = t .i in
             let e : Entry = entryAt x k (now s) (place i) in
             let within : i < length (front i) = omega (arith, n-le, length-filled (entryOf x k (now s)) i ys (omega (arith, n-le))) in
-            assigns ! (bin ! (held ! 16 refl) (held ! 20 refl) tt) (from ! (stop !)) (init ! 12 refl (tt, tt)) $
-            rewrite ! 12 (λ (z : Bool). ‵ (fat fullShare tyBool l₁₀ 0 (vbool z))) (lt-ltb i n small) refl $ stays ! (held ! 12 refl) $
+            assigns ! (bin ! (held ! 16 refl) (held ! 22 refl) tt) (from ! (stop !)) (init ! 12 refl (tt, tt)) $
+            rewrite ! 12 (λ (z : Bool). ‵ (fat fullShare tyBool l₁₁ 0 (vbool z))) (lt-ltb i n small) refl $ stays ! (held ! 12 refl) $
             -- `entry_at`
             calls-lent ! 𝓣 (entry-of (place i)) (known .enters)
             (Lent.lends α x s (K.the-row ∷ u32 ∷ []) (k, (place i, tt)) (uk ∷ [], (vint w32 (place i) ∷ [], tt)) is-f 𝓤 H A W q
             (LL.makes K.the-type K′.the-plain 𝓤 H A, (uint-makes 𝓤 H A W w32, tt)) (is-k, ((refl, t .fits), tt)))
-            (and-then ! (held ! 30 refl) (and-then ! (held ! 28 refl) (and-then ! (held ! 26 refl) (and-then ! (held ! 18 refl) (no-more !))))) e refl (λ is-e.
-            -- [the token; what the image owns; the row; the open borrow; obs; auth; _13; …]
+            (and-then ! (held ! 32 refl) (and-then ! (held ! 30 refl) (and-then ! (held ! 28 refl) (and-then ! (held ! 18 refl) (no-more !))))) e refl (λ is-e.
+            -- [the token; what the image owns; the row; the open borrow; obs; auth; _14; …]
             land ! (from ! (stop !)) (init ! 10 refl (LL.lawful T.the-type T′.the-laws 𝓤 H A W .typed e _ is-e .0)) $
             assigns ! (bin ! (held ! 16 refl) (lit ! tt) (record { fits = omega (arith, n-le, room .1) })) (from ! (stop !))
             (init ! 8 refl (tt, record { fits = omega (arith, n-le, room .1) })) $
-            assigns ! (bin ! (field-held ! 24 refl (sub ! 0 refl (whole !))) (held ! 8 refl) tt) (from ! (stop !))
-            (init ! 6 refl (tt, tt)) $ rewrite ! 6 (λ (m : ℕ). ‵ (fat fullShare (spotOf 𝓤 H En 13 .0) l₁₃ 0 (vptr b m))) (sym (place-is size o i)) refl $
+            assigns ! (bin ! (field-held ! 26 refl (sub ! 0 refl (whole !))) (held ! 8 refl) tt) (from ! (stop !))
+            (init ! 6 refl (tt, tt)) $ rewrite ! 6 (λ (m : ℕ). ‵ (fat fullShare (spotOf 𝓤 H En 14 .0) l₁₄ 0 (vptr b m))) (sym (place-is size o i)) refl $
             -- element i is taken out of the row, stored to, and put back
             move ! (2 ∷ []) $
             elem-out ! R (Is R) (shows 𝓤 H A R) (LL.vals T.the-type T′.the-laws) (LL.tells T.the-type T′.the-laws) fullShare (front i) i e b o within (λ _.
-            -- [out[i]; what it owns; the others; the token; what the image owns; the open borrow; obs; auth; _13; …]
+            -- [out[i]; what it owns; the others; the token; what the image owns; the open borrow; obs; auth; _14; …]
             assigns ! (of-opd ! (held ! 12 refl)) (from ! (hop ! (look ! 8 refl) (stop !)))
             (store-raw ! 0 refl (LL.lawful T.the-type T′.the-laws 𝓤 H A W .typed e _ is-e .0)) $
             move ! (1 ∷ []) $ drop ! $ owned ! R (Is R) (LL.makes T.the-type T′.the-plain 𝓤 H A) e _ is-e $ move ! (1 ∷ 0 ∷ []) $
@@ -265,9 +279,10 @@ module _ {M : Type 1} (𝓤 : URA M) (H : Heap 𝓤) (A : Atoms 𝓤) (W : Given
             rewrite ! 0 (λ (zs : List Entry). ‵ (row R fullShare zs b o)) (fill-turn (entryOf x k (now s)) i ys (front i) (omega (arith, n-le)) refl) refl $
             -- `go_on`
             move ! (1 ∷ 2 ∷ []) $ calls-lent ! 𝓣 (step-of (place i)) (known .steps)
-            (Lent.lends α x s (u32 ∷ []) (place i, tt) (vint w32 (place i) ∷ [], tt) is-f 𝓤 H A W q (uint-makes 𝓤 H A W w32, tt) ((refl, t .fits), tt))
-            (and-then ! (held ! 30 refl) (and-then ! (held ! 28 refl) (and-then ! (held ! 18 refl) (no-more !))))
-            (place (i + 1)) (along-step (next x (now s)) (end x (now s)) i (start x)) (λ is-p.
+            (Lent.lends α x s (u32 ∷ u32 ∷ []) (last, (place i, tt)) (vint w32 last ∷ [], (vint w32 (place i) ∷ [], tt)) is-f 𝓤 H A W q
+            (uint-makes 𝓤 H A W w32, (uint-makes 𝓤 H A W w32, tt)) ((refl, is-l), ((refl, t .fits), tt)))
+            (and-then ! (held ! 32 refl) (and-then ! (held ! 30 refl) (and-then ! (held ! 20 refl) (and-then ! (held ! 18 refl) (no-more !)))))
+            (place (i + 1)) (along-step (next x (now s)) last i (start x)) (λ is-p.
             land ! (from ! (stop !)) (store ! 18 refl (uint-lawful 𝓤 H A W w32 .typed _ _ is-p .0)) $
             assigns-last ! (bin ! (held ! 16 refl) (lit ! tt) (record { fits = omega (arith, n-le, room .0) })) (from ! (stop !))
             (store ! 16 refl (tt, record { fits = omega (arith, n-le, room .0) })) $
@@ -281,12 +296,12 @@ module _ {M : Type 1} (𝓤 : URA M) (H : Heap 𝓤) (A : Atoms 𝓤) (W : Given
             let i : ℕ = t .i in
             let all : i ≡ n = omega (arith, t .le) in
             let len : length (front i) ≡ length ys = length-filled (entryOf x k (now s)) i ys (omega (arith, n-le, t .le)) in
-            assigns ! (bin ! (held ! 16 refl) (held ! 20 refl) tt) (from ! (stop !)) (init ! 12 refl (tt, tt)) $
-            rewrite ! 12 (λ (z : Bool). ‵ (fat fullShare tyBool l₁₀ 0 (vbool z))) (le-ltb i n past) refl $ leaves-loop ! (held ! 12 refl) $
-            exec ! (𝓣 .C) (𝓣 .Λ) En piece.t-7 (atRet En Post) $
-            assigns ! (of-opd ! (held ! 22 refl)) (from ! (stop !)) (init ! 32 refl (EL.lawful N.the-type N′.the-laws 𝓤 H A W tt .typed answer _ is-a .0)) $
-            move ! (2 ∷ 3 ∷ 4 ∷ 5 ∷ []) $ closes-slice ! tt R ys (front i) len b o $ returns ! (look ! 31 refl) $
-            -- [obs; the borrow; its token; the token; what the image owns; _13; …]
+            assigns ! (bin ! (held ! 16 refl) (held ! 22 refl) tt) (from ! (stop !)) (init ! 12 refl (tt, tt)) $
+            rewrite ! 12 (λ (z : Bool). ‵ (fat fullShare tyBool l₁₁ 0 (vbool z))) (le-ltb i n past) refl $ leaves-loop ! (held ! 12 refl) $
+            exec ! (𝓣 .C) (𝓣 .Λ) En piece.t-8 (atRet En Post) $
+            assigns ! (of-opd ! (held ! 24 refl)) (from ! (stop !)) (init ! 34 refl (EL.lawful N.the-type N′.the-laws 𝓤 H A W tt .typed answer _ is-a .0)) $
+            move ! (2 ∷ 3 ∷ 4 ∷ 5 ∷ []) $ closes-slice ! tt R ys (front i) len b o $ returns ! (look ! 33 refl) $
+            -- [obs; the borrow; its token; the token; what the image owns; _14; …]
             by ! (freed 𝓤 H A W
             (‵ (fobs γ (codedHoleys R .code (heres R (front i)))) ∷ ‵ (fbor κ′ (Held R (length (front i)) b o γ)) ∷ ‵ (flft κ′ q′) ∷ Token ∷ ‵ Image ∷ [])
             En (values (some ua) i (some (vbool false))) [] (Post ua) (exits (front i) (ap front all) len is-a))
@@ -299,40 +314,45 @@ module _ {M : Type 1} (𝓤 : URA M) (H : Heap 𝓤) (A : Atoms 𝓤) (W : Given
           ∷ ‵ (Lent.Params α x s (K.the-row ∷ MutSlice (named 1) κ′ R ∷ []) (k, (out ys, tt)) (uk ∷ [], (uo ∷ [], tt))) ∷ []) ∵
           enter ! (𝓣 .C) (𝓣 .Λ) code.function (uf ∷ us ∷ uk ∷ uo ∷ []) _ $
           alloc1 ! (λ l₀. alloc1 ! (λ l₁. alloc1 ! (λ l₂. alloc1 ! (λ l₃. alloc1 ! (λ l₄. alloc1 ! (λ l₅. alloc1 ! (λ l₆. alloc1 ! (λ l₇. alloc1 ! (λ l₈.
-          alloc1 ! (λ l₉. alloc1 ! (λ l₁₀. alloc1 ! (λ l₁₁. alloc1 ! (λ l₁₂. alloc1 ! (λ l₁₃. alloc0 ! $ params1 ! $
-          pass1 ! (init ! 24 refl (EL.lawful F.the-type F′.the-laws 𝓤 H A W tt .typed x _ is-f .0)) $
-          pass1 ! (init ! 22 refl (shr-slice-lawful 𝓤 H A W (α .mir) κ u8 .typed s (us ∷ []) is-s .0)) $
-          pass1 ! (init ! 20 refl (LL.lawful K.the-type K′.the-laws 𝓤 H A W .typed k _ is-k .0)) $
-          pass1 ! (init ! 18 refl (tt, (tt, (record { fits = room .0 }, tt)))) $ pass0 ! $
+          alloc1 ! (λ l₉. alloc1 ! (λ l₁₀. alloc1 ! (λ l₁₁. alloc1 ! (λ l₁₂. alloc1 ! (λ l₁₃. alloc1 ! (λ l₁₄. alloc0 ! $ params1 ! $
+          pass1 ! (init ! 26 refl (EL.lawful F.the-type F′.the-laws 𝓤 H A W tt .typed x _ is-f .0)) $
+          pass1 ! (init ! 24 refl (shr-slice-lawful 𝓤 H A W (α .mir) κ u8 .typed s (us ∷ []) is-s .0)) $
+          pass1 ! (init ! 22 refl (LL.lawful K.the-type K′.the-laws 𝓤 H A W .typed k _ is-k .0)) $
+          pass1 ! (init ! 20 refl (tt, (tt, (record { fits = room .0 }, tt)))) $ pass0 ! $
           -- of what is owned at entry what the image owns is kept, and the lent list: the rest are facts
-          move ! (29 ∷ 28 ∷ []) $ fsplit ! $ drop ! $ fsplit ! $ move ! (1 ∷ []) $ fsplit ! $ drop ! $ fsplit ! $ move ! (1 ∷ []) $ drop ! $
-          -- [the token; what the image owns; the lent list's token; what it owns; _13; …; _12; …; _0; …]
+          move ! (31 ∷ 30 ∷ []) $ fsplit ! $ drop ! $ fsplit ! $ move ! (1 ∷ []) $ fsplit ! $ drop ! $ fsplit ! $ move ! (1 ∷ []) $ drop ! $
+          -- [the token; what the image owns; the lent list's token; what it owns; _14; …; _13; …; _0; …]
           move ! (2 ∷ []) $ split ! $ move ! (1 ∷ []) $ split ! $ move ! (2 ∷ 1 ∷ []) $ use2 W Token (id⊢ 𝓤 _) $ move ! (0 ∷ 3 ∷ []) $
-          assigns ! (of-opd ! (field-held ! 22 refl (sub ! 1 refl (whole !)))) (from ! (stop !))
+          assigns ! (of-opd ! (field-held ! 24 refl (sub ! 1 refl (whole !)))) (from ! (stop !))
           (init ! 12 refl (tt, record { fits = room .0 })) $
           -- `list_answer`
           calls-lent ! 𝓣 answer-of (known .answers)
           (Lent.lends α x s (K.the-row ∷ usize ∷ []) (k, (length ys, tt)) (uk ∷ [], (vint w64 (length ys) ∷ [], tt)) is-f 𝓤 H A W q
           (LL.makes K.the-type K′.the-plain 𝓤 H A, (uint-makes 𝓤 H A W w64, tt)) (is-k, ((refl, room .0), tt)))
-          (and-then ! (held ! 28 refl) (and-then ! (held ! 26 refl) (and-then ! (held ! 24 refl) (and-then ! (held ! 12 refl) (no-more !))))) answer refl (λ is-a.
-          land ! (from ! (stop !)) (init ! 20 refl (EL.lawful N.the-type N′.the-laws 𝓤 H A W tt .typed answer _ is-a .0)) $
+          (and-then ! (held ! 30 refl) (and-then ! (held ! 28 refl) (and-then ! (held ! 26 refl) (and-then ! (held ! 12 refl) (no-more !))))) answer refl (λ is-a.
+          land ! (from ! (stop !)) (init ! 22 refl (EL.lawful N.the-type N′.the-laws 𝓤 H A W tt .typed answer _ is-a .0)) $
           -- `entry_count`
           calls-plain ! 𝓣 count-of (known .bounds)
           (Lent.asks-plain 𝓤 H A W (N.the-row ∷ []) (EL.makes N.the-type N′.the-plain 𝓤 H A, tt) (answer, tt) (ua ∷ [], tt) (is-a, tt))
-          (and-then ! (held ! 21 refl) (no-more !)) n refl (λ is-n.
-          land ! (from ! (stop !)) (init ! 18 refl (uint-lawful 𝓤 H A W w64 .typed n _ is-n .0)) $
+          (and-then ! (held ! 23 refl) (no-more !)) n refl (λ is-n.
+          land ! (from ! (stop !)) (init ! 20 refl (uint-lawful 𝓤 H A W w64 .typed n _ is-n .0)) $
+          -- `items_end`
+          calls-lent ! 𝓣 end-of (known .closes) (Lent.lends α x s [] tt tt is-f 𝓤 H A W q tt tt)
+          (and-then ! (held ! 30 refl) (and-then ! (held ! 28 refl) (no-more !))) last refl (λ is-l.
+          land ! (from ! (stop !)) (init ! 18 refl (uint-lawful 𝓤 H A W w32 .typed last _ is-l .0)) $
           -- `first_place`
           calls-plain ! 𝓣 first-of (known .starts)
           (Lent.asks-plain 𝓤 H A W (F.the-row ∷ []) (EL.makes F.the-type F′.the-plain 𝓤 H A, tt) (x, tt) (uf ∷ [], tt) (is-f, tt))
-          (and-then ! (held ! 29 refl) (no-more !)) (place 0) (place-first x (now s)) (λ is-p.
+          (and-then ! (held ! 31 refl) (no-more !)) (place 0) (place-first x (now s)) (λ is-p.
           land ! (from ! (stop !)) (init ! 16 refl (uint-lawful 𝓤 H A W w32 .typed _ _ is-p .0)) $
           assigns ! (of-opd ! (lit ! tt)) (from ! (stop !)) (init ! 14 refl (tt, record { fits = lit< tt })) $ forget ! 12 refl $
-          -- the borrow is opened: [the token; what the image owns; the row; the open borrow; obs; auth; _13; …]
+          -- the borrow is opened: [the token; what the image owns; the row; the open borrow; obs; auth; _14; …]
           move ! (3 ∷ []) $ fsplit ! $ drop ! $ fsplit ! $ move ! (0 ∷ 1 ∷ 4 ∷ []) $ opens-slice ! tt R ys b o $ move ! (4 ∷ 5 ∷ []) $
           rewrite ! 2 (λ (zs : List Entry). ‵ (row R fullShare zs b o)) (fill-start (entryOf x k (now s)) ys) refl $
-          by ! (counts 𝓤 H A W (λ t. t .i) n (Inv is-a l₀ l₁ l₂ l₃ l₄ l₅ l₆ l₇ l₈ l₉ l₁₀ l₁₁ l₁₂ l₁₃) 𝓣 _ piece.turn-1 _
-          (more is-a l₀ l₁ l₂ l₃ l₄ l₅ l₆ l₇ l₈ l₉ l₁₀ l₁₁ l₁₂ l₁₃) (ends is-a l₀ l₁ l₂ l₃ l₄ l₅ l₆ l₇ l₈ l₉ l₁₀ l₁₁ l₁₂ l₁₃)
-          (record { i = 0; le = omega arith; fits = is-p .1 })))))))))))))))))))
+          by ! (counts 𝓤 H A W (λ t. t .i) n (Inv is-a (is-l .1) l₀ l₁ l₂ l₃ l₄ l₅ l₆ l₇ l₈ l₉ l₁₀ l₁₁ l₁₂ l₁₃ l₁₄) 𝓣 _ piece.turn-1 _
+          (more is-a (is-l .1) l₀ l₁ l₂ l₃ l₄ l₅ l₆ l₇ l₈ l₉ l₁₀ l₁₁ l₁₂ l₁₃ l₁₄)
+          (ends is-a (is-l .1) l₀ l₁ l₂ l₃ l₄ l₅ l₆ l₇ l₈ l₉ l₁₀ l₁₁ l₁₂ l₁₃ l₁₄)
+          (record { i = 0; le = omega arith; fits = is-p .1 })))))))))))))))))))))
 
 -- so the code meets the contract
 list-meets : {M : Type 1} (𝓤 : URA M) (H : Heap 𝓤) (A : Atoms 𝓤) (W : Given 𝓤 H A) (mem : Memory → SProp 𝓤) (run : Routine → Fun 𝓤) (𝓣 : Tables 𝓤 H)
@@ -352,6 +372,7 @@ list-spec 𝓤 H 𝓜 𝓖 𝓡 =
     (list-meets 𝓤 H (𝓖 .A) (givenOf 𝓤 H 𝓜 𝓖) (𝓜 .mem) (𝓡 .run) (tablesOf 𝓤 H 𝓜 (tables 𝓤 H 𝓜 𝓡 code.env)) (record {
       answers = list-answer-thm.met 𝓤 H 𝓜 𝓖 𝓡;
       bounds = entry-count-thm.met 𝓤 H 𝓜 𝓖 𝓡;
+      closes = items-end-thm.met 𝓤 H 𝓜 𝓖 𝓡;
       starts = first-place-thm.met 𝓤 H 𝓜 𝓖 𝓡;
       enters = entry-at-thm.met 𝓤 H 𝓜 𝓖 𝓡;
       steps = go-on-thm.met 𝓤 H 𝓜 𝓖 𝓡;

@@ -5,42 +5,24 @@ use Rattle.reader.proofs.layout.go_on.Tie as tie
 use mathlib.Core.Path.{sym}
 use native.Mathlib.Omega.{arith}
 use Rattle.chain.specs.laws.Onward.{onward-more, onward-end}
-use Rattle.reader.specs.Formats.{end, next}
-
-items-end-requires : tie.Need-items-end-requires
-items-end-requires c κs = search needs
+use Rattle.reader.specs.Formats.{next}
 
 returns : tie.Need-returns
-returns c = let e = c .before .items-end .ensures in
-    sym (onward-end _ _ _ (omega (arith, e, c .if1 .taken)))
+returns c = sym (onward-end _ _ _ (c .if1 .taken))
 
 next-from-requires : tie.Need-next-from-requires
 next-from-requires c κs = search needs
 
-cast-if2 : tie.Need-cast-if2
-cast-if2 c = search needs
-
 returns-2 : tie.Need-returns-2
-returns-2 c = let a = c .before .before .before .before .before .args in
-    let e = c .before .before .before .items-end .ensures in
-    omega (arith, e, c .before .next-from .ensures, c .if2 .taken, onward-more (next (a .format) (a .image .now)) (end (a .format) (a .image .now)) (a .at) (rw e at (c .before .before .if1 .left)))
+returns-2 c = let a = c .before .before .before .before .args in
+    omega (arith, c .before .next-from .ensures, c .if2 .taken, onward-more (next (a .format) (a .image .now)) (a .end) (a .at) (c .before .before .if1 .left))
 
 cast-result : tie.Need-cast-result
 cast-result c = search needs
 
 returns-3 : tie.Need-returns-3
-returns-3 c = let a = c .before .before .before .before .before .args in
-    let e = c .before .before .before .items-end .ensures in
-    omega (arith, e, c .before .next-from .ensures, c .if2 .left, onward-more (next (a .format) (a .image .now)) (end (a .format) (a .image .now)) (a .at) (rw e at (c .before .before .if1 .left)))
+returns-3 c = let a = c .before .before .before .before .args in
+    omega (arith, c .before .next-from .ensures, c .if2 .left, onward-more (next (a .format) (a .image .now)) (a .end) (a .at) (c .before .before .if1 .left))
 
 pub go-on-spec : {M : Type 1} → statement M
-go-on-spec =
-    tie.close
-    (tie.spec
-    items-end-requires
-    returns
-    next-from-requires
-    cast-if2
-    returns-2
-    cast-result
-    returns-3)
+go-on-spec = tie.close (tie.spec returns next-from-requires returns-2 cast-result returns-3)

@@ -9,12 +9,16 @@ judge-requires c κs = search needs
 pool-of-requires : tie.Need-pool-of-requires
 pool-of-requires c κs = search needs
 
+items-end-requires : tie.Need-items-end-requires
+items-end-requires c κs = search needs
+
 first-place-requires : tie.Need-first-place-requires
 first-place-requires c κs = search needs
 
 returns : tie.Need-returns
-returns c = rw (c .first-place .ensures, c .before .pool-of .ensures, c .before .before .judge .ensures)
+returns c = rw (c .first-place .ensures, c .before .items-end .ensures, c .before .before .pool-of .ensures, c .before .before .before .judge .ensures)
 
 pub first-position-spec : {M : Type 1} → statement M
 first-position-spec =
-    tie.close (tie.spec judge-requires pool-of-requires first-place-requires returns)
+    tie.close
+    (tie.spec judge-requires pool-of-requires items-end-requires first-place-requires returns)

@@ -1,7 +1,7 @@
 -- `steps::step_numbered` meets its contract: a walk of its MIR, by hand, with a loop over a local that holds the struct. Before turn i that local holds the
--- walk after i + 1 steps. The struct owns what its image owns, and facts: so the loop carries what the image owns, a turn's record has the facts, and each call
+-- walk after i steps. The struct owns what its image owns, and facts: so the loop carries what the image owns, a turn's record has the facts, and each call
 -- is given a struct that is made of both. Assumes nothing.
-use Prim.Native.Nat.{ℕ, _+_, _<_, _≤_, _^_}
+use Prim.Native.Nat.{ℕ, zero, suc, _+_, _<_, _≤_, _^_}
 use mathlib.Core.Bool.{Bool, false}
 use mathlib.Core.List.{List, [], _∷_}
 use mathlib.Core.Option.{Option, some, none}
@@ -24,7 +24,7 @@ use contract.Running.{givenOf, tables, tablesOf}
 use types.Kit.{Given, Item, ‵, _⊛_, ⋆, atRet, _$_, _∵_, !, qed, by, move, drop, use1, split, rewrite, fsplit, suffices, frame, done}
 use types.Part.{whole, sub, look-in}
 use types.Run.{look, store, init, forget, stop, fld, from, load, lit, of-opd, bin, and-then, no-more, assigns, assigns-last, land, stays, leaves-loop, returns, enter, alloc1, alloc0, params1, pass1, pass0, exec, again}
-use borrow.Author.Tests.{lt-ltb, le-ltb}
+use borrow.Author.Tests.{le-leb, lt-leb}
 use denote.Laws.{Is, shows}
 use denote.Plain.{uint-makes, uint-vals, uint-tells, uint-lawful}
 use denote.Builtin.{u8, usize}
@@ -68,11 +68,11 @@ use Rattle.reader.proofs.steps.steps_due as due
 use Rattle.reader.proofs.steps.steps_due.Met as due-thm
 use Rattle.reader.proofs.steps.steps_due.Symbol.{name as #due}
 use Rattle.reader.specs.Formats.{judged}
-use Rattle.reader.specs.Walk.{first, stepAt, walkAt, freshWalk, stepped, walked as after, stepNumbered, stepsDue}
+use Rattle.reader.specs.Walk.{walkAt, freshWalk, stepped, walked, stepNumbered, stepsDue}
 use Rattle.reader.specs.declared.Format.{Format}
-use Rattle.reader.specs.declared.Stepped.{Stepped}
+use Rattle.reader.specs.declared.StepAnswer.{StepAnswer}
 use Rattle.reader.specs.declared.Walk.{Walk}
-use Rattle.reader.specs.laws.Walk.{steps-due}
+use Rattle.reader.specs.laws.Walk.{steps-due, due-bound}
 use Rattle.verdict.proofs.Judged as J
 use Rattle.verdict.proofs.Judged.Laws as J′
 use Rattle.verdict.specs.declared.Judged.{Judged}
@@ -86,31 +86,34 @@ abbrev function : Lft → Fn
 function κ =
     Locals.retyped code.function
     (Locals.answer ∷ Locals.format ∷ Locals.image (Lent.outer κ) ∷ Locals.kinds ∷ tyInt w64 ∷ Locals.walk (Lent.inner κ) ∷ tyInt w64 ∷ tyInt w64
-    ∷ Locals.judged ∷ Locals.walk (Lent.inner κ) ∷ tyBool ∷ Locals.walk (Lent.inner κ) ∷ [])
+    ∷ Locals.judged ∷ tyBool ∷ Locals.walk (Lent.inner κ) ∷ [])
 
--- ---- what step i gives, counted from 0: of it the local of the struct is made
-abbrev given : Format → Kinds → List ℕ → ℕ → Stepped
-given x k l i = stepAt x k l (after x k l i)
+-- ---- what the struct shows after i steps: nothing, or what the last of them showed
+abbrev shows-after : Format → Kinds → List ℕ → ℕ → StepAnswer
+shows-after x k l zero = StepAnswer.Nothing
+shows-after x k l (suc i) = stepNumbered x k l i
 
--- the first step is given the walk that has not stepped, and each other one what the step before gave
-given-first : (x : Format) (k : Kinds) (l : List ℕ) → stepAt x k l (first x k l) ≡ given x k l 0
-unfolding after
-given-first x k l = refl
+-- the struct after i steps; before the first it is fresh, and a step makes the next of it
+abbrev after : Format → RefT (List ℕ) → Kinds → ℕ → Walk
+after x s k i = walkAt s x k (walked x k (now s) i) (shows-after x k (now s) i)
 
-given-next : (x : Format) (k : Kinds) (l : List ℕ) (i : ℕ) → stepAt x k l (given x k l i .position) ≡ given x k l (i + 1)
-unfolding after
-given-next x k l i = rw (add-one i)
+after-none : (x : Format) (s : RefT (List ℕ)) (k : Kinds) → freshWalk x s k ≡ after x s k 0
+unfolding walked
+after-none x s k = refl
 
--- after as many turns as are due it shows what the contract says
-given-last : (x : Format) (k : Kinds) (l : List ℕ) (n i : ℕ) → i ≡ stepsDue (judged x k l) n → given x k l i .shows ≡ stepNumbered x k l n
-unfolding stepNumbered
-given-last x k l n i e = ap (stepNumbered x k l) e ∙ steps-due x k l n
+after-more : (x : Format) (s : RefT (List ℕ)) (k : Kinds) (i : ℕ) → stepped (after x s k i) ≡ after x s k (i + 1)
+unfolding walked stepNumbered
+after-more x s k i = rw (add-one i)
+
+-- after one step more than come before the one of the number it shows what the contract says
+after-last : (x : Format) (k : Kinds) (l : List ℕ) (n i : ℕ) → i ≡ stepsDue (judged x k l) n + 1 → shows-after x k l i ≡ stepNumbered x k l n
+after-last x k l n i e = ap (shows-after x k l) (e ∙ add-one (stepsDue (judged x k l) n)) ∙ steps-due x k l n
 
 -- a turn of the loop: its number, and the facts of the struct that the local then holds
 record Turn (α : NamedLft) (x : Format) (s : RefT (List ℕ)) (k : Kinds) (m : ℕ) : Type 0 where
   i : ℕ
   le : i ≤ m
-  knows : Held.Facts α (walkAt s x k (given x k (now s) i))
+  knows : Held.Facts α (after x s k i)
 
 -- that each callee meets its contract
 record Known {M : Type 1} (𝓤 : URA M) (H : Heap 𝓤) (A : Atoms 𝓤) (mem : Memory → SProp 𝓤) (run : Routine → Fun 𝓤) (𝓣 : Tables 𝓤 H) : Type 2 where
@@ -149,7 +152,7 @@ module _ {M : Type 1} (𝓤 : URA M) (H : Heap 𝓤) (A : Atoms 𝓤) (W : Given
   abbrev Params : Fml
   Params = Lent.Params α x s (K.the-row ∷ usize ∷ []) (k, (n, tt)) (uk ∷ [], (vint w64 n ∷ [], tt))
 
-  -- the verdict, and how many turns the loop has
+  -- the verdict, and how many steps come before the one of the number; the loop has one turn more
   abbrev verdict : Judged
   verdict = judged x k (now s)
 
@@ -159,18 +162,15 @@ module _ {M : Type 1} (𝓤 : URA M) (H : Heap 𝓤) (A : Atoms 𝓤) (W : Given
   abbrev m : ℕ
   m = stepsDue verdict n
 
-  -- the struct that has not stepped, and the one before turn i
-  abbrev begin : Walk
-  begin = freshWalk x s k
-
+  -- the struct before turn i
   abbrev wk : ℕ → Walk
-  wk i = walkAt s x k (given x k (now s) i)
+  wk i = after x s k i
 
   -- ---- the calls
   abbrev fresh-of : Call 𝓤 H A
   fresh-of =
       calling 𝓤 H A fresh.ended (fresh.clauses 𝓤 H A mem run) (((κ, tt), (q, tt), tt, (x, (s, (k, tt))), (uf ∷ [], (us ∷ [], (uk ∷ [], tt)))), tt) (Held.mach α)
-      (LL.tells (T.the-type α) (T′.the-laws α)) begin refl
+      (LL.tells (T.the-type α) (T′.the-laws α)) (freshWalk x s k) refl
 
   abbrev due-of : Call 𝓤 H A
   due-of =
@@ -189,17 +189,22 @@ module _ {M : Type 1} (𝓤 : URA M) (H : Heap 𝓤) (A : Atoms 𝓤) (W : Given
   knows : (w : Walk) → Is (T.the-row α) w (Held.mach α w ∷ []) → Held.Facts α w
   knows w is = LL.owed (T.the-type α) (T′.the-laws α) w _ is
 
-  -- the verdict of the one that has not stepped
-  knows-verdict : Is (T.the-row α) begin (Held.mach α begin ∷ []) → Is J.the-row verdict (uj ∷ [])
-  knows-verdict is = LL.owed P.the-type P′.the-laws (first x k (now s)) _ (knows begin is .1 .1 .1 .0) .0
+  -- of the one that has not stepped, the verdict, and where the items end, which bounds the turns
+  knows-verdict : Held.Facts α (wk 0) → Is J.the-row verdict (uj ∷ [])
+  unfolding walked
+  knows-verdict fs = LL.owed P.the-type P′.the-laws (wk 0 .position) _ (fs .1 .1 .1 .0) .0
+
+  few : Held.Facts α (wk 0) → m + 1 < 2 ^ 64
+  unfolding walked
+  few fs = omega (arith, due-bound x k (now s) n, LL.owed P.the-type P′.the-laws (wk 0 .position) _ (fs .1 .1 .1 .0) .1 .1 .0 .1)
 
   module _ (is-f : Is F.the-row x (uf ∷ [])) (is-s : Is (Lent.Slice α) s (us ∷ [])) (is-k : Is K.the-row k (uk ∷ [])) (nf : n < 2 ^ 64) where
     -- ---- the exit: what the parameters own, and the answer
-    exits : (i : ℕ) → i ≡ m → Held.Facts α (wk i) → ent 𝓤 (⋆ 𝓤 H A (Token ∷ ‵ Image ∷ [])) (Post (EL.val S.the-type S′.the-laws (wk i .shows)))
+    exits : (i : ℕ) → i ≡ m + 1 → Held.Facts α (wk i) → ent 𝓤 (⋆ 𝓤 H A (Token ∷ ‵ Image ∷ [])) (Post (EL.val S.the-type S′.the-laws (wk i .shows)))
     exits i e fs =
         qed W (Token ∷ ‵ Image ∷ []) ∵
         suffices ! _ (ends-at 𝓤 H A f.ended stayed (f.clauses 𝓤 H A mem run) W entry (EL.val S.the-type S′.the-laws (wk i .shows)) (wk i .shows)
-        (tt, (tt, (tt, (tt, tt)))) (tt, (tt, (tt, (tt, tt))))) $ says ! (given-last x k (now s) n i e) $ frame ! $
+        (tt, (tt, (tt, (tt, tt)))) (tt, (tt, (tt, (tt, tt))))) $ says ! (after-last x k (now s) n i e) $ frame ! $
         use1 W (‵ Params ⊛ ‵ Image)
         (Lent.plain α x s (K.the-row ∷ usize ∷ []) (k, (n, tt)) (uk ∷ [], (vint w64 n ∷ [], tt)) is-f 𝓤 H A W
         (LL.makes K.the-type K′.the-plain 𝓤 H A, (uint-makes 𝓤 H A W w64, tt)) (is-k, ((refl, nf), tt))) $ split ! $ frame ! $ drop ! $
@@ -207,89 +212,86 @@ module _ {M : Type 1} (𝓤 : URA M) (H : Heap 𝓤) (A : Atoms 𝓤) (W : Given
 
     module _ (𝓣 : Tables 𝓤 H) (known : Known 𝓤 H A mem run 𝓣) where
       -- ---- the loop
-      module _ (mf : m < 2 ^ 64) (l₀ l₁ l₂ l₃ l₄ l₅ l₆ l₇ l₈ l₉ l₁₀ l₁₁ : ℕ) where
+      module _ (mf : m + 1 < 2 ^ 64) (l₀ l₁ l₂ l₃ l₄ l₅ l₆ l₇ l₈ l₉ l₁₀ : ℕ) where
         abbrev En : Env 𝓤 H
-        En = env 𝓤 H (function κ .locals) (l₀ ∷ l₁ ∷ l₂ ∷ l₃ ∷ l₄ ∷ l₅ ∷ l₆ ∷ l₇ ∷ l₈ ∷ l₉ ∷ l₁₀ ∷ l₁₁ ∷ [])
+        En = env 𝓤 H (function κ .locals) (l₀ ∷ l₁ ∷ l₂ ∷ l₃ ∷ l₄ ∷ l₅ ∷ l₆ ∷ l₇ ∷ l₈ ∷ l₉ ∷ l₁₀ ∷ [])
 
-        -- what the locals hold before turn i, with the result u₀ and the outcome u₁₀ of the test
+        -- what the locals hold before turn i, with the result u₀ and the outcome u₉ of the test
         abbrev values : Option Val → ℕ → Option Val → List (Option Val)
-        values u₀ i u₁₀ =
-            u₀ ∷ some uf ∷ some us ∷ some uk ∷ some (vint w64 n) ∷ some (Held.mach α (wk i)) ∷ some (vint w64 m) ∷ some (vint w64 i) ∷ none ∷ none ∷ u₁₀ ∷ []
+        values u₀ i u₉ =
+            u₀ ∷ some uf ∷ some us ∷ some uk ∷ some (vint w64 n) ∷ some (Held.mach α (wk i)) ∷ some (vint w64 m) ∷ some (vint w64 i) ∷ none ∷ u₉ ∷ []
 
         -- what holds before a turn: what is owned, and the locals from the last to the first, each with what frees it
-        abbrev Inv : Turn α x s k m → List (Item 𝓤)
+        abbrev Inv : Turn α x s k (m + 1) → List (Item 𝓤)
         Inv t = Token ∷ ‵ Image ∷ cells 𝓤 H En (values none (t .i) none) []
 
         -- when the loop is left, the rest of the body runs
         abbrev Left : Out → SProp 𝓤
-        Left = afterBlock 𝓤 H (afterSeq 𝓤 H (Wp 𝓤 H (𝓣 .C) (𝓣 .Λ) En piece.t-8 (atReturn 𝓤 H En Post)) (atReturn 𝓤 H En Post))
+        Left = afterBlock 𝓤 H (afterSeq 𝓤 H (Wp 𝓤 H (𝓣 .C) (𝓣 .Λ) En piece.t-6 (atReturn 𝓤 H En Post)) (atReturn 𝓤 H En Post))
 
-        abbrev Goes : Turn α x s k m → Type 1
-        Goes = Turns 𝓤 H A W (λ t. t .i) m Inv 𝓣 En piece.turn-1 Left
+        abbrev Goes : Turn α x s k (m + 1) → Type 1
+        Goes = Turns 𝓤 H A W (λ t. t .i) (m + 1) Inv 𝓣 En piece.turn-1 Left
 
         -- a turn that steps once more
-        more : (t : Turn α x s k m) → t .i < m → Goes t
+        more : (t : Turn α x s k (m + 1)) → t .i < m + 1 → Goes t
         unfolding afterTurn
         more t small =
             let i : ℕ = t .i in
-            assigns ! (bin ! (held ! 10 refl) (held ! 12 refl) tt) (from ! (stop !)) (init ! 4 refl (tt, tt)) $
-            rewrite ! 4 (λ (z : Bool). ‵ (fat fullShare tyBool l₁₀ 0 (vbool z))) (lt-ltb i m small) refl $ stays ! (held ! 4 refl) $
-            assigns ! (of-opd ! (held ! 14 refl)) (from ! (stop !)) (init ! 2 refl (in-walk (wk i) (Held.is α (wk i) (t .knows)))) $
+            assigns ! (bin ! (held ! 8 refl) (held ! 10 refl) tt) (from ! (stop !)) (init ! 4 refl (tt, tt)) $
+            rewrite ! 4 (λ (z : Bool). ‵ (fat fullShare tyBool l₉ 0 (vbool z))) (le-leb i m (omega arith)) refl $ stays ! (held ! 4 refl) $
+            assigns ! (of-opd ! (held ! 12 refl)) (from ! (stop !)) (init ! 2 refl (in-walk (wk i) (Held.is α (wk i) (t .knows)))) $
             -- `step`
             calls-lent ! 𝓣 (step-of (wk i)) (known .steps) (Held.lends α (wk i) 𝓤 H A W q (t .knows))
-            (and-then ! (held ! 2 refl) (no-more !)) (wk (i + 1)) (ap (walkAt s x k) (given-next x k (now s) i)) (λ is-w.
-            land ! (from ! (stop !)) (store ! 14 refl (in-walk (wk (i + 1)) is-w)) $
-            assigns-last ! (bin ! (held ! 10 refl) (lit ! tt) (record { fits = omega (arith, mf) })) (from ! (stop !))
-            (store ! 10 refl (tt, record { fits = omega (arith, mf) })) $ forget ! 4 refl $ forget ! 2 refl $
-            again ! (≺ (λ t. t .i) m) Inv t (record { i = i + 1; le = omega arith; knows = knows (wk (i + 1)) is-w }) (omega arith))
+            (and-then ! (held ! 2 refl) (no-more !)) (wk (i + 1)) (after-more x s k i) (λ is-w.
+            land ! (from ! (stop !)) (store ! 12 refl (in-walk (wk (i + 1)) is-w)) $
+            assigns-last ! (bin ! (held ! 8 refl) (lit ! tt) (record { fits = omega (arith, mf) })) (from ! (stop !))
+            (store ! 8 refl (tt, record { fits = omega (arith, mf) })) $ forget ! 4 refl $ forget ! 2 refl $
+            again ! (≺ (λ t. t .i) (m + 1)) Inv t (record { i = i + 1; le = omega arith; knows = knows (wk (i + 1)) is-w }) (omega arith))
 
         -- the turn that leaves the loop, and the rest of the body
-        ends : (t : Turn α x s k m) → m ≤ t .i → Goes t
+        ends : (t : Turn α x s k (m + 1)) → m + 1 ≤ t .i → Goes t
         unfolding afterTurn
         ends t past =
             let i : ℕ = t .i in
             let ua : Val = EL.val S.the-type S′.the-laws (wk i .shows) in
-            assigns ! (bin ! (held ! 10 refl) (held ! 12 refl) tt) (from ! (stop !)) (init ! 4 refl (tt, tt)) $
-            rewrite ! 4 (λ (z : Bool). ‵ (fat fullShare tyBool l₁₀ 0 (vbool z))) (le-ltb i m past) refl $ leaves-loop ! (held ! 4 refl) $
-            exec ! (𝓣 .C) (𝓣 .Λ) En piece.t-8 (atRet En Post) $
-            assigns ! (of-opd ! (field-held ! 14 refl (sub ! 4 refl (whole !)))) (from ! (stop !))
-            (init ! 24 refl (Locals.answer-typed 𝓤 H A W _ (wk i .shows) (t .knows .1 .1 .1 .1 .0))) $ returns ! (look ! 24 refl) $
+            assigns ! (bin ! (held ! 8 refl) (held ! 10 refl) tt) (from ! (stop !)) (init ! 4 refl (tt, tt)) $
+            rewrite ! 4 (λ (z : Bool). ‵ (fat fullShare tyBool l₉ 0 (vbool z))) (lt-leb i m (omega arith)) refl $ leaves-loop ! (held ! 4 refl) $
+            exec ! (𝓣 .C) (𝓣 .Λ) En piece.t-6 (atRet En Post) $
+            assigns ! (of-opd ! (field-held ! 12 refl (sub ! 4 refl (whole !)))) (from ! (stop !))
+            (init ! 22 refl (Locals.answer-typed 𝓤 H A W _ (wk i .shows) (t .knows .1 .1 .1 .1 .0))) $ returns ! (look ! 22 refl) $
             by ! (freed 𝓤 H A W (Token ∷ ‵ Image ∷ []) En (values (some ua) i (some (vbool false))) [] (Post ua) (exits i (omega (arith, t .le)) (t .knows)))
 
       -- ---- the MIR up to the loop, from what is owned at entry
       walk : ent 𝓤 (onEntry 𝓤 H A f.signature (κ, tt) (q, tt) (x, (s, (k, (n, tt)))) (entry .0 .4))
           (WpFn 𝓤 H (𝓣 .C) (𝓣 .Λ) (function κ) (uf ∷ us ∷ uk ∷ vint w64 n ∷ []) Post)
+      unfolding walked
       walk =
           qed W (Token ∷ ‵ Params ∷ []) ∵ enter ! (𝓣 .C) (𝓣 .Λ) (function κ) (uf ∷ us ∷ uk ∷ vint w64 n ∷ []) _ $
           alloc1 ! (λ l₀. alloc1 ! (λ l₁. alloc1 ! (λ l₂. alloc1 ! (λ l₃. alloc1 ! (λ l₄. alloc1 ! (λ l₅.
-          alloc1 ! (λ l₆. alloc1 ! (λ l₇. alloc1 ! (λ l₈. alloc1 ! (λ l₉. alloc1 ! (λ l₁₀. alloc1 ! (λ l₁₁. alloc0 ! $ params1 ! $
-          pass1 ! (init ! 20 refl (Locals.format-typed 𝓤 H A W uf x is-f)) $
-          pass1 ! (init ! 18 refl (shr-slice-lawful 𝓤 H A W (α .mir) κ u8 .typed s (us ∷ []) is-s .0)) $
-          pass1 ! (init ! 16 refl (Locals.kinds-typed 𝓤 H A W uk k is-k)) $ pass1 ! (init ! 14 refl (tt, record { fits = nf })) $ pass0 ! $
-          -- of what is owned at entry only what the image owns is kept: the rest are facts. [the token; what the image owns; _11; …; _10; …; _0; …]
-          move ! (25 ∷ []) $ fsplit ! $ drop ! $ fsplit ! $ move ! (1 ∷ []) $ drop ! $ move ! (25 ∷ []) $
+          alloc1 ! (λ l₆. alloc1 ! (λ l₇. alloc1 ! (λ l₈. alloc1 ! (λ l₉. alloc1 ! (λ l₁₀. alloc0 ! $ params1 ! $
+          pass1 ! (init ! 18 refl (Locals.format-typed 𝓤 H A W uf x is-f)) $
+          pass1 ! (init ! 16 refl (shr-slice-lawful 𝓤 H A W (α .mir) κ u8 .typed s (us ∷ []) is-s .0)) $
+          pass1 ! (init ! 14 refl (Locals.kinds-typed 𝓤 H A W uk k is-k)) $ pass1 ! (init ! 12 refl (tt, record { fits = nf })) $ pass0 ! $
+          -- of what is owned at entry only what the image owns is kept: the rest are facts. [the token; what the image owns; _10; …; _9; …; _0; …]
+          move ! (23 ∷ []) $ fsplit ! $ drop ! $ fsplit ! $ move ! (1 ∷ []) $ drop ! $ move ! (23 ∷ []) $
           -- `fresh`
           calls-lent ! 𝓣 fresh-of (known .starts)
           (Lent.lends α x s (K.the-row ∷ []) (k, tt) (uk ∷ [], tt) is-f 𝓤 H A W q (LL.makes K.the-type K′.the-plain 𝓤 H A, tt) (is-k, tt))
-          (and-then ! (held ! 22 refl) (and-then ! (held ! 20 refl) (and-then ! (held ! 18 refl) (no-more !)))) begin refl (λ is-b.
-          land ! (from ! (stop !)) (init ! 14 refl (in-walk begin is-b)) $
+          (and-then ! (held ! 20 refl) (and-then ! (held ! 18 refl) (and-then ! (held ! 16 refl) (no-more !)))) (wk 0) (after-none x s k) (λ is-w.
+          let fs : Held.Facts α (wk 0) = knows (wk 0) is-w in
+          land ! (from ! (stop !)) (init ! 12 refl (in-walk (wk 0) is-w)) $
           -- `steps_due`, on the verdict
-          assigns ! (of-opd ! (load ! (from ! (fld ! refl (fld ! refl (stop !)))) (look-in ! 14 (sub ! 0 refl (sub ! 3 refl (whole !)))))) (from ! (stop !))
-          (init ! 8 refl (Locals.judged-typed 𝓤 H A W uj verdict (knows-verdict is-b))) $
+          assigns ! (of-opd ! (load ! (from ! (fld ! refl (fld ! refl (stop !)))) (look-in ! 12 (sub ! 0 refl (sub ! 3 refl (whole !)))))) (from ! (stop !))
+          (init ! 6 refl (Locals.judged-typed 𝓤 H A W uj verdict (knows-verdict fs))) $
           calls-plain ! 𝓣 due-of (known .bounds)
           (Lent.asks-plain 𝓤 H A W (J.the-row ∷ usize ∷ []) (EL.makes J.the-type J′.the-plain 𝓤 H A, (uint-makes 𝓤 H A W w64, tt))
-          (verdict, (n, tt)) (uj ∷ [], (vint w64 n ∷ [], tt)) (knows-verdict is-b, ((refl, nf), tt)))
-          (and-then ! (held ! 9 refl) (and-then ! (held ! 17 refl) (no-more !))) m refl (λ is-m.
-          land ! (from ! (stop !)) (init ! 12 refl (uint-lawful 𝓤 H A W w64 .typed m _ is-m .0)) $
-          -- `step`, once
-          assigns ! (of-opd ! (held ! 14 refl)) (from ! (stop !)) (init ! 6 refl (in-walk begin is-b)) $
-          calls-lent ! 𝓣 (step-of begin) (known .steps) (Held.lends α begin 𝓤 H A W q (knows begin is-b))
-          (and-then ! (held ! 6 refl) (no-more !)) (wk 0) (ap (walkAt s x k) (given-first x k (now s))) (λ is-w.
-          land ! (from ! (stop !)) (store ! 14 refl (in-walk (wk 0) is-w)) $
-          assigns ! (of-opd ! (lit ! tt)) (from ! (stop !)) (init ! 10 refl (tt, record { fits = lit< tt })) $ forget ! 8 refl $ forget ! 6 refl $
-          by ! (counts 𝓤 H A W (λ t. t .i) m (Inv (is-m .1) l₀ l₁ l₂ l₃ l₄ l₅ l₆ l₇ l₈ l₉ l₁₀ l₁₁) 𝓣 _ piece.turn-1 _
-          (more (is-m .1) l₀ l₁ l₂ l₃ l₄ l₅ l₆ l₇ l₈ l₉ l₁₀ l₁₁) (ends (is-m .1) l₀ l₁ l₂ l₃ l₄ l₅ l₆ l₇ l₈ l₉ l₁₀ l₁₁)
-          (record { i = 0; le = omega arith; knows = knows (wk 0) is-w })))))))))))))))))
+          (verdict, (n, tt)) (uj ∷ [], (vint w64 n ∷ [], tt)) (knows-verdict fs, ((refl, nf), tt)))
+          (and-then ! (held ! 7 refl) (and-then ! (held ! 15 refl) (no-more !))) m refl (λ is-m.
+          land ! (from ! (stop !)) (init ! 10 refl (uint-lawful 𝓤 H A W w64 .typed m _ is-m .0)) $
+          assigns ! (of-opd ! (lit ! tt)) (from ! (stop !)) (init ! 8 refl (tt, record { fits = lit< tt })) $ forget ! 6 refl $
+          by ! (counts 𝓤 H A W (λ t. t .i) (m + 1) (Inv (few fs) l₀ l₁ l₂ l₃ l₄ l₅ l₆ l₇ l₈ l₉ l₁₀) 𝓣 _ piece.turn-1 _
+          (more (few fs) l₀ l₁ l₂ l₃ l₄ l₅ l₆ l₇ l₈ l₉ l₁₀) (ends (few fs) l₀ l₁ l₂ l₃ l₄ l₅ l₆ l₇ l₈ l₉ l₁₀)
+          (record { i = 0; le = omega arith; knows = fs })))))))))))))))
 
 -- so the code meets the contract
 step-numbered-meets : {M : Type 1} (𝓤 : URA M) (H : Heap 𝓤) (A : Atoms 𝓤) (W : Given 𝓤 H A) (mem : Memory → SProp 𝓤) (run : Routine → Fun 𝓤) (𝓣 : Tables 𝓤 H)
