@@ -2,10 +2,9 @@
 use borrow.Author.Needs.{needs}
 use Rattle.reader.proofs.steps.shown.Statement.{statement}
 use Rattle.reader.proofs.steps.shown.Tie as tie
-use mathlib.Core.Path.{sym, ap, _∙_}
+use mathlib.Core.Path.{sym, ap}
 use borrow.Author.Tests.{lt-ltb, le-ltb}
 use Rattle.reader.specs.Walk.{shownIf, shown}
-use Rattle.reader.specs.declared.StepAnswer.{StepAnswer}
 
 enum-told : tie.Need-enum-told
 enum-told c = search needs
@@ -16,7 +15,7 @@ item-at-requires c κs = search needs
 returns : tie.Need-returns
 unfolding shown
 returns c = let a = c .before .before .before .before .before .before .before .args in
-    rw (lt-ltb _ _ (c .before .if1 .taken)) (ap StepAnswer.Shown (c .item-at .ensures)) ∙ sym (ap (shownIf (a .format) (a .kinds) (a .image .now) (a .position)) (c .before .before .before .enum-told .given .1))
+    rw (ap (shownIf (a .format) (a .kinds) (a .image .now) (a .position)) (c .before .before .before .enum-told .given .1), lt-ltb _ _ (c .before .if1 .taken), c .item-at .ensures)
 
 enum-known-verdict : tie.Need-enum-known-verdict
 enum-known-verdict c = search needs
