@@ -62,15 +62,12 @@ kinds = typeOf K.the-row
 unfoldable pub judged : Ty
 judged = typeOf J.the-row
 
-abbrev pub pool : Ty
-pool = typeOf Pool.the-row
-
 unfoldable pub answer : Ty
 answer = typeOf S.the-row
 
 -- of a struct whose fields are read the fields stand open
 abbrev pub position : Ty
-position = tyStruct (P.struct .name) (tcons judged (tcons pool (tcons (tyInt w32) (tcons (tyInt w32) tnil))))
+position = tyStruct (P.struct .name) (tcons judged (tcons (typeOf Pool.the-row) (tcons (tyInt w32) (tcons (tyInt w32) tnil))))
 
 abbrev pub walk : NamedLft → Ty
 walk α = tyStruct (T.struct α .name) (tcons (image α) (tcons format (tcons kinds (tcons position (tcons answer tnil)))))

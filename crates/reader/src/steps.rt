@@ -16,7 +16,7 @@ ghost use mathlib.Core.Path.{_≡_};
 ghost use Rattle.reader.specs.Items.{itemAt};
 ghost use Rattle.reader.specs.Walk.{first, moved, shown, freshWalk, stepped, stepNumbered, stepsDue};
 
-// Where a walk begins: the image is judged, its pool and the end of its items are found, once.
+// Where a walk begins. The image is judged here, and its pool and the end of its items are found: once for all steps.
 fn first_position(format: Format, image: &[u8], kinds: Kinds) -> Position
     ensures { λ r. ⌜ r ≡ first format kinds (now (image .entry)) ⌝ }
 {
@@ -28,7 +28,7 @@ fn first_position(format: Format, image: &[u8], kinds: Kinds) -> Position
     }
 }
 
-// The item at a place.
+// The item at a place, whose strings lie in this pool.
 fn item_at(format: Format, image: &[u8], kinds: Kinds, pool: Pool, at: u32) -> Item
     ensures { λ r. ⌜ r ≡ itemAt format kinds (now (image .entry)) pool at ⌝ }
 {

@@ -104,7 +104,7 @@ module _ {M : Type 1} (𝓤 : URA M) (H : Heap 𝓤) (A : Atoms 𝓤) (W : Given
   abbrev Image : Fml
   Image = Lent.Image α (d .image)
 
-  -- the struct that is made
+  -- the struct that is made, and the machine values of its position and of what it shows
   abbrev made : Walk
   made = stepped d
 
@@ -128,17 +128,7 @@ module _ {M : Type 1} (𝓤 : URA M) (H : Heap 𝓤) (A : Atoms 𝓤) (W : Given
       (EL.val S.the-type S′.the-laws) (EL.tells S.the-type S′.the-laws) (shown (d .format) (d .kinds) (now (d .image)) (d .position)) refl
 
   module _ (fs : Held.Facts α d) where
-    -- the fields are of the types of the locals that they are put in
-    in-image : Locals.Typed (Locals.image (Lent.inner κ)) us
-    in-image = shr-slice-lawful 𝓤 H A W erased κ u8 .typed (d .image) (us ∷ []) (fs .0) .0
-
-    in-format : Locals.Typed Locals.format uf
-    in-format = Locals.format-typed 𝓤 H A W uf (d .format) (fs .1 .0)
-
-    in-kinds : Locals.Typed Locals.kinds uk
-    in-kinds = Locals.kinds-typed 𝓤 H A W uk (d .kinds) (fs .1 .1 .0)
-
-    -- the position with another place, and the facts of the struct that is made
+    -- the facts of the position, where the place alone is new, and of the struct that is made
     at-place : Is u32 (made .position .at) (vint w32 (made .position .at) ∷ []) → Is P.the-row (made .position) (up′ ∷ [])
     at-place is-p =
         let got = LL.owed P.the-type P′.the-laws (d .position) _ (fs .1 .1 .1 .0) in
@@ -165,9 +155,12 @@ module _ {M : Type 1} (𝓤 : URA M) (H : Heap 𝓤) (A : Atoms 𝓤) (W : Given
         -- of what is owned at entry only what the image owns is kept: the rest are facts. [the token; what the image owns; _8; …; _7; …; _0; …]
         move ! (19 ∷ []) $ use1 W (‵ Image) (Held.image α d 𝓤 H A W) $ move ! (19 ∷ []) $
         -- the struct is taken apart
-        assigns ! (of-opd ! (field-held ! 16 refl (sub ! 0 refl (whole !)))) (from ! (stop !)) (init ! 14 refl in-image) $
-        assigns ! (of-opd ! (field-held ! 16 refl (sub ! 1 refl (whole !)))) (from ! (stop !)) (init ! 12 refl in-format) $
-        assigns ! (of-opd ! (field-held ! 16 refl (sub ! 2 refl (whole !)))) (from ! (stop !)) (init ! 10 refl in-kinds) $
+        assigns ! (of-opd ! (field-held ! 16 refl (sub ! 0 refl (whole !)))) (from ! (stop !))
+        (init ! 14 refl (shr-slice-lawful 𝓤 H A W erased κ u8 .typed (d .image) (us ∷ []) (fs .0) .0)) $
+        assigns ! (of-opd ! (field-held ! 16 refl (sub ! 1 refl (whole !)))) (from ! (stop !))
+        (init ! 12 refl (Locals.format-typed 𝓤 H A W uf (d .format) (fs .1 .0))) $
+        assigns ! (of-opd ! (field-held ! 16 refl (sub ! 2 refl (whole !)))) (from ! (stop !))
+        (init ! 10 refl (Locals.kinds-typed 𝓤 H A W uk (d .kinds) (fs .1 .1 .0))) $
         assigns ! (of-opd ! (field-held ! 16 refl (sub ! 3 refl (whole !)))) (from ! (stop !))
         (init ! 8 refl (Locals.position-typed 𝓤 H A W up (d .position) (fs .1 .1 .1 .0))) $
         -- `moved`

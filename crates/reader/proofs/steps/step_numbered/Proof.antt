@@ -94,26 +94,26 @@ shows-after x k l zero = StepAnswer.Nothing
 shows-after x k l (suc i) = stepNumbered x k l i
 
 -- the struct after i steps; before the first it is fresh, and a step makes the next of it
-abbrev after : Format → RefT (List ℕ) → Kinds → ℕ → Walk
-after x s k i = walkAt s x k (walked x k (now s) i) (shows-after x k (now s) i)
+abbrev struct-after : Format → RefT (List ℕ) → Kinds → ℕ → Walk
+struct-after x s k i = walkAt s x k (walked x k (now s) i) (shows-after x k (now s) i)
 
-after-none : (x : Format) (s : RefT (List ℕ)) (k : Kinds) → freshWalk x s k ≡ after x s k 0
+struct-fresh : (x : Format) (s : RefT (List ℕ)) (k : Kinds) → freshWalk x s k ≡ struct-after x s k 0
 unfolding walked
-after-none x s k = refl
+struct-fresh x s k = refl
 
-after-more : (x : Format) (s : RefT (List ℕ)) (k : Kinds) (i : ℕ) → stepped (after x s k i) ≡ after x s k (i + 1)
+struct-next : (x : Format) (s : RefT (List ℕ)) (k : Kinds) (i : ℕ) → stepped (struct-after x s k i) ≡ struct-after x s k (i + 1)
 unfolding walked stepNumbered
-after-more x s k i = rw (add-one i)
+struct-next x s k i = rw (add-one i)
 
 -- after one step more than come before the one of the number it shows what the contract says
-after-last : (x : Format) (k : Kinds) (l : List ℕ) (n i : ℕ) → i ≡ stepsDue (judged x k l) n + 1 → shows-after x k l i ≡ stepNumbered x k l n
-after-last x k l n i e = ap (shows-after x k l) (e ∙ add-one (stepsDue (judged x k l) n)) ∙ steps-due x k l n
+shows-last : (x : Format) (k : Kinds) (l : List ℕ) (n i : ℕ) → i ≡ stepsDue (judged x k l) n + 1 → shows-after x k l i ≡ stepNumbered x k l n
+shows-last x k l n i e = ap (shows-after x k l) (e ∙ add-one (stepsDue (judged x k l) n)) ∙ steps-due x k l n
 
 -- a turn of the loop: its number, and the facts of the struct that the local then holds
 record Turn (α : NamedLft) (x : Format) (s : RefT (List ℕ)) (k : Kinds) (m : ℕ) : Type 0 where
   i : ℕ
   le : i ≤ m
-  knows : Held.Facts α (after x s k i)
+  knows : Held.Facts α (struct-after x s k i)
 
 -- that each callee meets its contract
 record Known {M : Type 1} (𝓤 : URA M) (H : Heap 𝓤) (A : Atoms 𝓤) (mem : Memory → SProp 𝓤) (run : Routine → Fun 𝓤) (𝓣 : Tables 𝓤 H) : Type 2 where
@@ -164,7 +164,7 @@ module _ {M : Type 1} (𝓤 : URA M) (H : Heap 𝓤) (A : Atoms 𝓤) (W : Given
 
   -- the struct before turn i
   abbrev wk : ℕ → Walk
-  wk i = after x s k i
+  wk i = struct-after x s k i
 
   -- ---- the calls
   abbrev fresh-of : Call 𝓤 H A
@@ -204,7 +204,7 @@ module _ {M : Type 1} (𝓤 : URA M) (H : Heap 𝓤) (A : Atoms 𝓤) (W : Given
     exits i e fs =
         qed W (Token ∷ ‵ Image ∷ []) ∵
         suffices ! _ (ends-at 𝓤 H A f.ended stayed (f.clauses 𝓤 H A mem run) W entry (EL.val S.the-type S′.the-laws (wk i .shows)) (wk i .shows)
-        (tt, (tt, (tt, (tt, tt)))) (tt, (tt, (tt, (tt, tt))))) $ says ! (after-last x k (now s) n i e) $ frame ! $
+        (tt, (tt, (tt, (tt, tt)))) (tt, (tt, (tt, (tt, tt))))) $ says ! (shows-last x k (now s) n i e) $ frame ! $
         use1 W (‵ Params ⊛ ‵ Image)
         (Lent.plain α x s (K.the-row ∷ usize ∷ []) (k, (n, tt)) (uk ∷ [], (vint w64 n ∷ [], tt)) is-f 𝓤 H A W
         (LL.makes K.the-type K′.the-plain 𝓤 H A, (uint-makes 𝓤 H A W w64, tt)) (is-k, ((refl, nf), tt))) $ split ! $ frame ! $ drop ! $
@@ -242,7 +242,7 @@ module _ {M : Type 1} (𝓤 : URA M) (H : Heap 𝓤) (A : Atoms 𝓤) (W : Given
             assigns ! (of-opd ! (held ! 12 refl)) (from ! (stop !)) (init ! 2 refl (in-walk (wk i) (Held.is α (wk i) (t .knows)))) $
             -- `step`
             calls-lent ! 𝓣 (step-of (wk i)) (known .steps) (Held.lends α (wk i) 𝓤 H A W q (t .knows))
-            (and-then ! (held ! 2 refl) (no-more !)) (wk (i + 1)) (after-more x s k i) (λ is-w.
+            (and-then ! (held ! 2 refl) (no-more !)) (wk (i + 1)) (struct-next x s k i) (λ is-w.
             land ! (from ! (stop !)) (store ! 12 refl (in-walk (wk (i + 1)) is-w)) $
             assigns-last ! (bin ! (held ! 8 refl) (lit ! tt) (record { fits = omega (arith, mf) })) (from ! (stop !))
             (store ! 8 refl (tt, record { fits = omega (arith, mf) })) $ forget ! 4 refl $ forget ! 2 refl $
@@ -277,7 +277,7 @@ module _ {M : Type 1} (𝓤 : URA M) (H : Heap 𝓤) (A : Atoms 𝓤) (W : Given
           -- `fresh`
           calls-lent ! 𝓣 fresh-of (known .starts)
           (Lent.lends α x s (K.the-row ∷ []) (k, tt) (uk ∷ [], tt) is-f 𝓤 H A W q (LL.makes K.the-type K′.the-plain 𝓤 H A, tt) (is-k, tt))
-          (and-then ! (held ! 20 refl) (and-then ! (held ! 18 refl) (and-then ! (held ! 16 refl) (no-more !)))) (wk 0) (after-none x s k) (λ is-w.
+          (and-then ! (held ! 20 refl) (and-then ! (held ! 18 refl) (and-then ! (held ! 16 refl) (no-more !)))) (wk 0) (struct-fresh x s k) (λ is-w.
           let fs : Held.Facts α (wk 0) = knows (wk 0) is-w in
           land ! (from ! (stop !)) (init ! 12 refl (in-walk (wk 0) is-w)) $
           -- `steps_due`, on the verdict
