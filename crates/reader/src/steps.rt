@@ -82,7 +82,7 @@ pub fn fresh<'a>(format: Format, image: &'a [u8], kinds: Kinds) -> Walk<'a>
     }
 }
 
-// The walk after a step; it carries what the step shows.
+// The walk after a step; it carries what the step shows. (The position is copied before the calls: compiled code then copies no part of it in a turn of a loop.)
 pub fn step<'a>(walk: Walk<'a>) -> Walk<'a>
     ensures { λ r. ⌜ r ≡ stepped (walk .entry) ⌝ }
 {
@@ -90,17 +90,13 @@ pub fn step<'a>(walk: Walk<'a>) -> Walk<'a>
     let format = walk.format;
     let kinds = walk.kinds;
     let position = walk.position;
-    let at = moved(format, image, position);
+    let mut after = position;
+    after.at = moved(format, image, position);
     Walk {
         image,
         format,
         kinds,
-        position: Position {
-            verdict: position.verdict,
-            pool: position.pool,
-            end: position.end,
-            at,
-        },
+        position: after,
         shows: shown(format, image, kinds, position),
     }
 }

@@ -70,7 +70,7 @@ fn batched_at(image: &[u8], pool: Pool, start: usize) -> Batched
     }
 }
 
-// The part of an image that begins at a place.
+// The part of an image that begins at a place; empty past the end.
 fn part_from(image: &[u8], at: usize) -> &[u8]
     ensures { λ r. ⌜ now r ≡ drop at (now (image .entry)) ⌝ }
 {
@@ -80,7 +80,7 @@ fn part_from(image: &[u8], at: usize) -> &[u8]
     &image[..0]
 }
 
-// What is shown of the pool at a place. Its strings are counted in the part of the image that begins with it, so the place may be any.
+// What is shown of the pool at a place. Its strings are counted in the part of the image that begins with it: there its places fit in 16 bits.
 fn pool_shown(image: &[u8], at: u32) -> PoolShown
     ensures { λ r. ⌜ r ≡ poolShown (now (image .entry)) (poolAt (now (image .entry)) (Found.At at)) ⌝ }
 {

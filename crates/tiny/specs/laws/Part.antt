@@ -1,4 +1,4 @@
--- The item at a place is the first of the part of the image that begins there: its data are as many, and as a pool it has the same texts. Assumes nothing.
+-- The item at a place is the first of the part of the image that begins there: it has as many data bytes, and as a pool the same texts. Assumes nothing.
 use Prim.Native.Nat.{ℕ, _+_, _-_, _/_}
 use mathlib.Core.Bool.{cond}
 use mathlib.Core.List.{List}
@@ -14,7 +14,7 @@ use Rattle.tiny_layout.specs.Layout.{isLong, headSize, dataLength, dataAt, next
 use Rattle.tiny_layout.specs.Pool.{poolAt}
 use Rattle.tiny_layout.specs.Strings.{split, texts}
 
--- the data of an item, as many as they are, and their texts as a pool
+-- how many data bytes an item has, and what its texts are as a pool
 pub data-length : (s : List ℕ) (p : ℕ) → next s p - dataAt s p ≡ dataLength s p
 unfolding next
 data-length s p = omega arith
@@ -24,7 +24,7 @@ unfolding texts
 texts-data s p = ap (λ (n : ℕ). split (run s (dataAt s p) n)) (data-length s p)
 
 module _ (s : List ℕ) (p : ℕ) where
-  -- in the part: the tag, how many bytes come before the data, and how many data there are
+  -- read in the part: the tag, how many bytes come before the data, and how many data bytes there are
   tag-part : byte (drop p s) 0 ≡ byte s p
   tag-part = getD-drop p s 0 0 ∙ ap (byte s) (omega arith)
 
