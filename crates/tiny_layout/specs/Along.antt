@@ -1,4 +1,4 @@
--- What lies end to end in a tiny image, as the code's two loops see it: items and strings are one kind of chain. Assumes nothing.
+-- What lies end to end in a tiny image, as the code's loop by number sees it: items and strings are one kind of chain. Assumes nothing.
 use Prim.Native.Nat.{ℕ}
 use mathlib.Core.List.{List}
 use Rattle.tiny_layout.specs.Layout.{next}

@@ -149,19 +149,6 @@ fn next_place(along: Along, image: &[u8], end: u16, at: usize) -> usize
     }
 }
 
-// How many items, or strings, there are from a place up to an end.
-fn count(along: Along, image: &[u8], from: usize, end: u16) -> usize
-    ensures { λ r. ⌜ r ≡ length (chain (following along (now (image .entry)) end) end from) ⌝ }
-{
-    let mut at = from;
-    let mut n = 0;
-    while at < end as usize {
-        n += 1;
-        at = next_place(along, image, end, at);
-    }
-    n
-}
-
 // The place of an item, or of a string, by its number.
 fn place_of(along: Along, image: &[u8], from: usize, end: u16, number: usize) -> Found
     ensures { λ r. ⌜ r ≡ nth (chain (following along (now (image .entry)) end) end from) number ⌝ }
@@ -178,13 +165,6 @@ fn place_of(along: Along, image: &[u8], from: usize, end: u16, number: usize) ->
     Found::Nothing
 }
 
-// How many items there are.
-pub fn item_count(image: &[u8]) -> usize
-    ensures { λ r. ⌜ r ≡ length (items (now (image .entry))) ⌝ }
-{
-    count(Along::Items, image, 3, check_place(image) as u16)
-}
-
 // The place of the item of a number.
 pub fn item_place(image: &[u8], number: usize) -> Found
     ensures { λ r. ⌜ r ≡ nth (items (now (image .entry))) number ⌝ }
@@ -196,7 +176,14 @@ pub fn item_place(image: &[u8], number: usize) -> Found
 pub fn string_count(image: &[u8], pool: Pool) -> usize
     ensures { λ r. ⌜ r ≡ length (texts (now (image .entry)) pool) ⌝ }
 {
-    count(Along::Strings, image, pool.from as usize, pool.to)
+    let end = pool.to;
+    let mut at = pool.from as usize;
+    let mut n = 0;
+    while at < end as usize {
+        n += 1;
+        at = string_end(image, end, at);
+    }
+    n
 }
 
 // The place of the string of a number.
