@@ -144,7 +144,8 @@ fn is_plain(image: &[u8], kinds: Kinds, end: u32, at: u32, head: Head) -> bool
     let length = head.length;
     let finish = at as usize + length as usize;
     let after = next_after(at, length);
-    if is_known(kinds, shape_of(head.signature, head.major)) {
+    let shape = shape_of(head.signature, head.major);
+    if is_known(kinds, shape) {
         return false;
     }
     if mark != 0x24 {
