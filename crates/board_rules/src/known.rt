@@ -35,7 +35,7 @@ fn look_into(found: Contents, image: &[u8], kinds: Kinds, at: u32) -> Contents
 }
 
 // What the walk finds up to `rest`, from where on no structure is known; where rule 32 is broken, what was found up to there: rule 33 does not count then.
-pub fn walk_known(image: &[u8], kinds: Kinds, rest: usize) -> Contents
+pub(crate) fn walk_known(image: &[u8], kinds: Kinds, rest: usize) -> Contents
     requires { ⌜ along (now image) (isKnown kinds (now image)) rest ≡ Found.Nothing ⌝ }
     ensures { λ r. ⌜ Looked kinds (now (image .entry)) r ⌝ }
 {

@@ -201,7 +201,7 @@ fn note(
 }
 
 // What the whole walk finds; where rule 23 is broken, what was found up to there: no other rule counts then, and what follows may be anything.
-pub fn walk_all(image: &[u8], kinds: Kinds) -> Findings
+pub(crate) fn walk_all(image: &[u8], kinds: Kinds) -> Findings
     ensures { λ r. ⌜ Walked kinds (now (image .entry)) r ⌝ }
 {
     let end = struct_len(image);

@@ -163,7 +163,7 @@ fn note(found: Findings, image: &[u8], kinds: Kinds, end: u8, at: u8, head: Head
 }
 
 // What the whole walk finds.
-pub fn walk_all(image: &[u8], kinds: Kinds) -> Findings
+pub(crate) fn walk_all(image: &[u8], kinds: Kinds) -> Findings
     ensures { λ r. ⌜ Walked kinds (now (image .entry)) r ⌝ }
 {
     let end = check_place(image);
