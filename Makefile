@@ -48,7 +48,7 @@ soak: ## compare more images through C with a reader in Rust: make soak IMAGES=2
 	@rt check host reader_c >target/soak.log 2>&1 || { cat target/soak.log; exit 1; }
 	@python3 tests/host_runs.py $(or $(IMAGES),2000000) $(or $(SEED),2)
 
-bench: ## time the CRCs against zlib and a plain C loop, and judge, list, walk and name against a reader in Rust and zlib's crc32 (no test)
+bench: ## time the CRCs against zlib and a plain C loop, and judge, list and name against a reader in Rust and zlib's crc32 (no test)
 	@command -v $(CC) >/dev/null || { echo "bench: no C compiler: $(CC) is not found"; exit 1; }
 	@command -v rustc >/dev/null || { echo "bench: no Rust compiler: rustc is not found"; exit 1; }
 	@echo '#include <zlib.h>' | $(CC) -E - >/dev/null 2>&1 || { echo "bench: zlib.h is missing: install the package zlib1g-dev"; exit 1; }
