@@ -26,12 +26,17 @@ module _ (s : List ℕ) (octets : Octets s) (p : ℕ) where
   unfolding le16 tab
   le64-first = omega (arith, le64-low, octets (p + 0), octets (p + 1), ap (byte s) (add-zero p))
 
--- ---- the m bytes from p on, or as many of them as there are
+-- ---- the bytes from p on
+pub run-drop : (s : List ℕ) (p o n : ℕ) → run (drop p s) o n ≡ run s (p + o) n
+run-drop s p o n =
+    tab-agree (λ i. byte (drop p s) (o + i)) (λ i. byte s (p + o + i)) n (λ i l. getD-drop p s (o + i) 0 ∙ ap (byte s) (omega arith))
+
+-- the first m of them, or as many as there are
 module _ (m : ℕ) (s : List ℕ) (p o : ℕ) where
-  pub run-part-at : (n : ℕ) → o + n ≤ m → run (take m (drop p s)) o n ≡ run s (p + o) n
+  run-part-at : (n : ℕ) → o + n ≤ m → run (take m (drop p s)) o n ≡ run s (p + o) n
   run-part-at n h =
-      tab-agree (λ i. byte (take m (drop p s)) (o + i)) (λ i. byte s (p + o + i)) n
-      (λ i l. getD-take m (drop p s) (o + i) 0 (omega arith) ∙ getD-drop p s (o + i) 0 ∙ ap (byte s) (omega arith))
+      tab-agree (λ i. byte (take m (drop p s)) (o + i)) (λ i. byte (drop p s) (o + i)) n (λ i l. getD-take m (drop p s) (o + i) 0 (omega arith))
+      ∙ run-drop s p o n
 
   pub le16-part-at : o + 2 ≤ m → le16 (take m (drop p s)) o ≡ le16 s (p + o)
   unfolding le16

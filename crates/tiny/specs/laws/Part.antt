@@ -1,5 +1,5 @@
 -- The item at a place is the first of the part of the image that begins there: it has as many data bytes, and as a pool the same texts. Assumes nothing.
-use Prim.Native.Nat.{ℕ, _+_, _-_, _/_}
+use Prim.Native.Nat.{ℕ, _-_, _/_}
 use mathlib.Core.Bool.{cond}
 use mathlib.Core.List.{List}
 use mathlib.Core.Path.{_≡_, sym, ap, ap₂, _∙_}
@@ -8,8 +8,8 @@ use native.Mathlib.Omega.{arith}
 use lib.ListN.{drop}
 use lib.Seq.{getD-drop}
 use Rattle.chain.specs.declared.Found.the-variants.{At}
-use Rattle.chain.specs.laws.Fill.{tab-agree}
 use Rattle.octets.specs.Bytes.{byte, run}
+use Rattle.octets.specs.laws.Parts.{run-drop}
 use Rattle.tiny_layout.specs.Layout.{isLong, headSize, dataLength, dataAt, next}
 use Rattle.tiny_layout.specs.Pool.{poolAt}
 use Rattle.tiny_layout.specs.Strings.{split, texts}
@@ -37,13 +37,9 @@ module _ (s : List ℕ) (p : ℕ) where
       ap (λ (b : ℕ). cond (isLong b) (byte (drop p s) 1) (b / 16)) tag-part
       ∙ ap (λ (b : ℕ). cond (isLong (byte s p)) b (byte s p / 16)) (getD-drop p s 1 0)
 
-  -- a run of bytes
-  run-part : (q n : ℕ) → run (drop p s) q n ≡ run s (p + q) n
-  run-part q n = tab-agree (λ i. byte (drop p s) (q + i)) (λ i. byte s (p + q + i)) n (λ i h. getD-drop p s (q + i) 0 ∙ ap (byte s) (omega arith))
-
   -- so the texts are the same
   pub texts-part : texts (drop p s) (poolAt (drop p s) (At 0)) ≡ texts s (poolAt s (At p))
   texts-part =
       texts-data (drop p s) 0
-      ∙ ap split (ap₂ (run (drop p s)) head-part length-part ∙ run-part (headSize (byte s p)) (dataLength s p))
+      ∙ ap split (ap₂ (run (drop p s)) head-part length-part ∙ run-drop s p (headSize (byte s p)) (dataLength s p))
       ∙ sym (texts-data s p)
