@@ -1,7 +1,10 @@
 -- The tables of layout paper 000: which one a structure has, whether a reader knows it, its fixed part and its reserved field. Assumes nothing.
 use Prim.Native.Nat.{ℕ}
 use mathlib.Core.Bool.{Bool, true, false, cond}
+use mathlib.Core.Path.{_≡_}
 use lib.Dec.{eqb}
+use Rattle.board_layout.specs.declared.Records.{Records}
+use Rattle.board_layout.specs.declared.Records.the-variants.{Map, Gpio}
 use Rattle.board_layout.specs.declared.Shape.{Shape}
 use Rattle.board_layout.specs.declared.Shape.the-variants.{Eeprom, EeprMap, BrdInfo, PromSig, AcpiTbl, FpgaNfo, GpioDat, HdCodec, Logo, MemCnfg, MacInfo, UCode, Video, Other}
 use Rattle.kinds.specs.Signatures.{eeprom, eeprMap, brdInfo, promSig, acpiTbl, fpgaNfo, gpioDat, hdCodec, logo, memCnfg, macInfo, uCode, video}
@@ -96,3 +99,8 @@ reservedTo MacInfo = 0x30
 reservedTo UCode = 0x20
 reservedTo Video = 0x20
 reservedTo Other = 0x10
+
+-- which records follow the fields of a table: `$EeprMap` and `$GpioDat` have them
+abbrev pub HasRecords : Records → Shape → Type 0
+HasRecords Map a = a ≡ EeprMap
+HasRecords Gpio a = a ≡ GpioDat

@@ -8,5 +8,6 @@ pub mod All
 pub mod Fill
 pub mod Onward
 pub mod Inside
+pub mod Finds
 pub mod Examples
 pub mod laws

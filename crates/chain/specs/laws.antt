@@ -21,3 +21,4 @@ pub mod Steps
 pub mod Fill
 pub mod Onward
 pub mod Inside
+pub mod Finds

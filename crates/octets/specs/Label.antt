@@ -11,7 +11,7 @@ use Rattle.chain.specs.Chain.{range}
 use Rattle.chain.specs.First.{first, when, orElse}
 use Rattle.chain.specs.declared.Found.{Found}
 use Rattle.chain.specs.declared.Found.the-variants.{At, Nothing}
-use Rattle.octets.specs.Bytes.{byte}
+use Rattle.octets.specs.Bytes.{byte, run}
 use Rattle.octets.specs.Runs.{nonzero}
 
 -- "Characters are 20h to 7Eh."
@@ -67,3 +67,12 @@ pub record BadByte (l : List ℕ) (i : ℕ) : Type 0 where
   pub beginning : (j : ℕ) → j < i → byte other j ≡ byte l j
   -- with them and it none does
   pub none : (m : List ℕ) → GoodLabel m → ((j : ℕ) → j ≤ i → byte m j ≡ byte l j) → ⊥
+
+-- the label at p: sixteen bytes; and q is the place of its bad byte
+abbrev pub label : List ℕ → ℕ → List ℕ
+label s p = run s p 16
+
+pub record BadAt (s : List ℕ) (p q : ℕ) : Type 0 where
+  pub offset : ℕ
+  pub stands : p + offset ≡ q
+  pub bad : BadByte (label s p) offset

@@ -4,3 +4,4 @@ pub mod Refused
 pub mod Bounds
 pub mod Agree
 pub mod Numbers
+pub mod Table

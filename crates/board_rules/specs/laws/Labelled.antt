@@ -6,8 +6,8 @@ use mathlib.Core.Path.{_≡_}
 use native.Mathlib.Omega.{arith}
 use Rattle.chain.specs.declared.Found.the-variants.{At}
 use Rattle.chain.specs.laws.Rising.{Check, foundBy, starts, Smallest, rising-smallest, tested, Ascending, tested-starts, tested-rising}
-use Rattle.octets.specs.Label.{badLabel}
-use Rattle.octets.specs.laws.LabelBad.{BadAt, bad-byte}
+use Rattle.octets.specs.Label.{badLabel, BadAt}
+use Rattle.octets.specs.laws.LabelBad.{bad-byte}
 
 abbrev pub labelled : List ℕ → ℕ → List (ℕ × Bool) → List Check
 labelled s q l = (q, badLabel s q) ∷ tested l

@@ -16,7 +16,7 @@ use Rattle.chain.specs.laws.Below.{below}
 use Rattle.chain.specs.laws.Loops.{one-grows, search-end, search-more}
 use Rattle.chain.specs.laws.Ranges.{Least, range-least, range-none, least-range, none-range}
 use Rattle.octets.specs.Bytes.{byte, run}
-use Rattle.octets.specs.Label.{isText, isLabelText, dollar, noText, textEnd}
+use Rattle.octets.specs.Label.{isText, isLabelText, dollar, noText, textEnd, label}
 use Rattle.octets.specs.Runs.{isNothing}
 use Rattle.octets.specs.laws.Bytes.{byte-within, byte-run}
 
@@ -35,11 +35,7 @@ text-nonzero b e = go (leb 0x20 b) refl e
     go false d e = let z : _≡_ {A = ℕ} 0 1 = cc in absurd (omega arith)
 
 module _ (s : List ℕ) (p : ℕ) where
-  -- the sixteen bytes at p
-  abbrev pub label : List ℕ
-  label = run s p 16
-
-  pub label-byte : (i : ℕ) → i < 16 → byte label i ≡ byte s (p + i)
+  pub label-byte : (i : ℕ) → i < 16 → byte (label s p) i ≡ byte s (p + i)
   label-byte i h = byte-run s p 16 i h
 
   -- the text does not end exactly where all sixteen bytes are characters

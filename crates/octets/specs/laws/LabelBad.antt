@@ -10,6 +10,7 @@ use lib.Dec.{T, eqb, ltb}
 use borrow.Author.Tests.{eq-eqb, ne-eqb, eqb-true, eqb-false, not-false, not-true, lt-ltb, le-ltb}
 use Rattle.chain.specs.Fill.{tab}
 use Rattle.chain.specs.First.{orElse, when}
+use Rattle.chain.specs.Finds.{Finds}
 use Rattle.chain.specs.declared.Found.{Found}
 use Rattle.chain.specs.declared.Found.the-variants.{At, Nothing}
 use Rattle.chain.specs.laws.Below.{below}
@@ -17,9 +18,10 @@ use Rattle.chain.specs.laws.Fill.{length-tab, getD-tab}
 use Rattle.chain.specs.laws.First.{at-nothing}
 use Rattle.chain.specs.laws.Ranges.{Least}
 use Rattle.octets.specs.Bytes.{byte}
-use Rattle.octets.specs.Label.{isLabelText, dollar, textEnd, afterText, badLabel, Ended, GoodLabel, BadByte}
+use Rattle.octets.specs.Label.{isLabelText, dollar, textEnd, afterText, badLabel, Ended, GoodLabel, BadByte, label, BadAt}
 use Rattle.octets.specs.Runs.{isSet, nonzero}
-use Rattle.octets.specs.laws.Label.{label, label-byte, dollar-text, text-fits, text-before, text-stops}
+use Rattle.octets.specs.laws.LabelGood.{good-label}
+use Rattle.octets.specs.laws.Label.{label-byte, dollar-text, text-fits, text-before, text-stops}
 use Rattle.octets.specs.laws.Runs.{nonzero-least}
 
 -- a byte is not both text and no text
@@ -91,16 +93,11 @@ module _ (s : List ℕ) (p : ℕ) where
         }
 
   -- the rule's place is that of the bad byte
-  pub record BadAt (q : ℕ) : Type 0 where
-    pub offset : ℕ
-    pub stands : p + offset ≡ q
-    pub bad : BadByte (label s p) offset
-
-  pub bad-byte : (q : ℕ) → badLabel s p ≡ At q → BadAt q
+  pub bad-byte : (q : ℕ) → badLabel s p ≡ At q → BadAt s p q
   unfolding badLabel
   bad-byte q = go (textEnd s p) refl
     where
-      no-mark : (i : ℕ) → textEnd s p ≡ At i → (byte s (p + i) ≡ dollar → ⊥) → BadAt (p + i)
+      no-mark : (i : ℕ) → textEnd s p ≡ At i → (byte s (p + i) ≡ dollar → ⊥) → BadAt s p (p + i)
       no-mark i d n =
           let w : i < 16 = text-fits s p i d in
           record {
@@ -111,7 +108,7 @@ module _ (s : List ℕ) (p : ℕ) where
                 (λ l e same. n (sym (same i (omega arith) ∙ label-byte s p i w) ∙ e .mark));
           }
 
-      not-zero : (i : ℕ) → textEnd s p ≡ At i → byte s (p + i) ≡ dollar → Least (isSet s p) (λ j. p + j) (i + 1) 16 q → BadAt q
+      not-zero : (i : ℕ) → textEnd s p ≡ At i → byte s (p + i) ≡ dollar → Least (isSet s p) (λ j. p + j) (i + 1) 16 q → BadAt s p q
       not-zero i d k l =
           record {
             offset = l .number;
@@ -124,10 +121,24 @@ module _ (s : List ℕ) (p : ℕ) where
                 (sym (same (l .number) (omega arith) ∙ label-byte s p (l .number) (l .to)) ∙ e .zeros (l .number) (omega (arith, l .from)) (l .to)));
           }
 
-      at-end : (i : ℕ) → textEnd s p ≡ At i → (b : Bool) → eqb (byte s (p + i)) dollar ≡ b → orElse (when (not b) (p + i)) (nonzero s p (i + 1) 16) ≡ At q → BadAt q
+      at-end : (i : ℕ) → textEnd s p ≡ At i → (b : Bool) → eqb (byte s (p + i)) dollar ≡ b → orElse (when (not b) (p + i)) (nonzero s p (i + 1) 16) ≡ At q → BadAt s p q
       at-end i d true t e = not-zero i d (eqb-true _ _ t) (nonzero-least s p (i + 1) 16 q e)
-      at-end i d false t e = let z : p + i ≡ q = cc in subst BadAt z (no-mark i d (eqb-false _ _ t))
+      at-end i d false t e = let z : p + i ≡ q = cc in subst (BadAt s p) z (no-mark i d (eqb-false _ _ t))
 
-      go : (f : Found) → textEnd s p ≡ f → afterText s p f ≡ At q → BadAt q
+      go : (f : Found) → textEnd s p ≡ f → afterText s p f ≡ At q → BadAt s p q
       go (At i) d e = at-end i d (eqb (byte s (p + i)) dollar) refl e
       go Nothing d e = absurd (at-nothing (sym e))
+
+  -- a label has one bad byte at most, and a good one has none: so the rule finds it
+  one-bad : (i j : ℕ) → BadByte (label s p) i → BadByte (label s p) j → i ≤ j
+  one-bad i j a b =
+      elim (below j i) [ inl h ↦ absurd (b .none (a .other) (a .good) (λ m l. a .beginning m (omega arith))) | inr h ↦ h ]
+
+  pub finds-label : Finds (BadAt s p) (badLabel s p)
+  finds-label = go (badLabel s p) refl
+    where
+      go : (f : Found) → badLabel s p ≡ f → Finds (BadAt s p) f
+      go (At q) e =
+          let h : BadAt s p q = bad-byte q e in
+          (h, λ z b. omega (arith, one-bad (h .offset) (b .offset) (h .bad) (b .bad), h .stands, b .stands))
+      go Nothing e = λ z b. b .bad .none (label s p) (good-label s p e) (λ j h. refl)

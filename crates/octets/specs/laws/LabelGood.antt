@@ -12,10 +12,10 @@ use Rattle.chain.specs.declared.Found.{Found}
 use Rattle.chain.specs.declared.Found.the-variants.{At, Nothing}
 use Rattle.chain.specs.laws.First.{orElse-left, orElse-right, when-nothing}
 use Rattle.octets.specs.Bytes.{byte}
-use Rattle.octets.specs.Label.{isLabelText, dollar, textEnd, afterText, badLabel, Ended, GoodLabel}
+use Rattle.octets.specs.Label.{isLabelText, dollar, textEnd, afterText, badLabel, Ended, GoodLabel, label}
 use Rattle.octets.specs.Runs.{nonzero}
 use Rattle.octets.specs.laws.Bytes.{length-run}
-use Rattle.octets.specs.laws.Label.{label, label-byte, dollar-text, text-full, full-text, text-fits, text-before, stops-text}
+use Rattle.octets.specs.laws.Label.{label-byte, dollar-text, text-full, full-text, text-fits, text-before, stops-text}
 use Rattle.octets.specs.laws.Runs.{nonzero-none, none-nonzero}
 
 module _ (s : List ℕ) (p : ℕ) where
