@@ -3,5 +3,8 @@ pub mod Items
 pub mod Records
 pub mod Answers
 pub mod Values
+pub mod Shown
+pub mod NotShown
+pub mod Silent
 pub mod Examples
 pub mod laws

@@ -2,5 +2,8 @@
 
 pub mod Exactly
 pub mod Shown
+pub mod Rows
 pub mod Alike
+pub mod Told
+pub mod Both
 pub mod Same

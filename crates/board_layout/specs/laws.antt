@@ -3,6 +3,7 @@
 pub mod Layout
 pub mod Head
 pub mod Shapes
+pub mod Tables
 pub mod Near
 pub mod Records
 pub mod Same

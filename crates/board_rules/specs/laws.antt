@@ -9,6 +9,7 @@ pub mod Heads
 pub mod Accepted
 pub mod Shorter
 pub mod Tables
+pub mod Rows
 pub mod Same
 pub mod Labelled
 pub mod Records

@@ -4,5 +4,6 @@ pub mod Runs
 pub mod Cut
 pub mod Put
 pub mod Label
+pub mod Rows
 pub mod Examples
 pub mod laws

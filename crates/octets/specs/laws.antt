@@ -8,6 +8,8 @@ pub mod Label
 pub mod LabelGood
 pub mod LabelBad
 pub mod Same
+pub mod Told
+pub mod Rows
 pub mod Cut
 pub mod Put
 pub mod Pieces

@@ -4,6 +4,7 @@ use Prim.Native.Nat.{ℕ}
 use borrow.Author.Tests.{ltb-true, leb-true}
 use mathlib.Core.Bool.{true, _&&_}
 use mathlib.Core.Logic.{_⊎_, inl, inr}
+use mathlib.Core.List.{[], _∷_}
 use mathlib.Core.Path.{_≡_, refl}
 use lib.Dec.{ltb, leb}
 use Rattle.board.specs.Answers.{mapRecordNumbered, gpioRecordNumbered}
@@ -31,6 +32,7 @@ use Rattle.kinds.specs.laws.Kinds.{full-contains}
 use Rattle.octets.specs.Bytes.{le16, le32, le64, byte}
 use Rattle.octets.specs.Label.{isText, isLabelText, textEnd, badLabel}
 use Rattle.octets.specs.Runs.{sixteenAt, nonzero}
+use Rattle.octets.specs.Rows.{number, part}
 use Rattle.promises.proofs.Demand3.{demand3}
 use Rattle.promises.proofs.Differ.{both, one-of-three}
 use Rattle.promises.specs.Answers.{answers}
@@ -42,7 +44,6 @@ use Rattle.reader.specs.Answers.{itemNumbered, listOf}
 use Rattle.reader.specs.Entries.{entryAt}
 use Rattle.reader.specs.Walk.{moved, shown as step-shown, walked, stepNumbered}
 use Rattle.reader.specs.declared.Format.the-variants.{Board}
-use Rattle.board.specs.declared.Fields.{Fields}
 use Rattle.kinds.specs.declared.Kind.the-variants.{Signature}
 use Rattle.reader.specs.Values as reader
 use Rattle.reader.specs.Values.{FieldValues, ItemValues}
@@ -50,18 +51,18 @@ use Rattle.verdict.specs.Said.{says, refused}
 use Rattle.kinds.specs.Signatures as signatures
 
 -- ---- `$Logo$` off the list, and another logo
-accepts-board : Accepted (answers Board full instances.one)
+pub accepts-board : Accepted (answers Board full instances.one)
 unfolding answers hidden itemNumbered listOf entryAt onward moved step-shown walked stepNumbered mapRecordNumbered gpioRecordNumbered restAt eepromAt eeprMapAt brdInfoAt itemAt mapRecordAt gpioRecordAt judged rule20 rule21 rule22 rule23 rule24 rule25 rule26 rule27 rule28 rule29 rule30 rule31 rule32 rule33 misplaced gapUsed expected outOfOrder promSigAt covered checkOver badMapHead badBoardHead badPromSigHead badHash badHashOf hashSize badMap badMapField badMapRecord badGpioRecord badBoardType reservedUsed badInside badGpio shapeAt shapeOf listedShape endAt round16 next mapAt boardAt laterAt records visit chain first nth tab le16 le32 le64 sixteenAt nonzero isText isLabelText textEnd badLabel listed picked all same crc32 shift shifts step32
 accepts-board = (4, refl)
 
 readers-board : TwoReaders Board full instances.logoless instances.one
 readers-board = demand3 Board .readers full instances.logoless (full-contains instances.logoless) instances.one accepts-board
 
-logoless-one : Accepted (answers Board instances.logoless instances.one)
+pub logoless-one : Accepted (answers Board instances.logoless instances.one)
 unfolding answers hidden itemNumbered listOf entryAt onward moved step-shown walked stepNumbered mapRecordNumbered gpioRecordNumbered restAt eepromAt eeprMapAt brdInfoAt itemAt mapRecordAt gpioRecordAt judged rule20 rule21 rule22 rule23 rule24 rule25 rule26 rule27 rule28 rule29 rule30 rule31 rule32 rule33 misplaced gapUsed expected outOfOrder promSigAt covered checkOver badMapHead badBoardHead badPromSigHead badHash badHashOf hashSize badMap badMapField badMapRecord badGpioRecord badBoardType reservedUsed badInside badGpio shapeAt shapeOf listedShape endAt round16 next mapAt boardAt laterAt records visit chain first nth tab le16 le32 le64 sixteenAt nonzero isText isLabelText textEnd badLabel listed picked all same crc32 shift shifts step32
 logoless-one = (4, refl)
 
-logoless-other : Accepted (answers Board instances.logoless instances.other)
+pub logoless-other : Accepted (answers Board instances.logoless instances.other)
 unfolding answers hidden itemNumbered listOf entryAt onward moved step-shown walked stepNumbered mapRecordNumbered gpioRecordNumbered restAt eepromAt eeprMapAt brdInfoAt itemAt mapRecordAt gpioRecordAt judged rule20 rule21 rule22 rule23 rule24 rule25 rule26 rule27 rule28 rule29 rule30 rule31 rule32 rule33 misplaced gapUsed expected outOfOrder promSigAt covered checkOver badMapHead badBoardHead badPromSigHead badHash badHashOf hashSize badMap badMapField badMapRecord badGpioRecord badBoardType reservedUsed badInside badGpio shapeAt shapeOf listedShape endAt round16 next mapAt boardAt laterAt records visit chain first nth tab le16 le32 le64 sixteenAt nonzero isText isLabelText textEnd badLabel listed picked all same crc32 shift shifts step32
 logoless-other = (4, refl)
 
@@ -85,7 +86,7 @@ logos =
     go q (inr (inl e)) = let h = both (leb 0x14 q) (ltb q 0x18) e in inr (inl (leb-true 0x14 q (h .0), ltb-true q 0x18 (h .1)))
     go q (inr (inr e)) = inr (inr (logo q e))
 
-images-board : answers Board instances.logoless instances.one ≡ answers Board instances.logoless instances.other
+pub images-board : answers Board instances.logoless instances.one ≡ answers Board instances.logoless instances.other
 images-board = demand3 Board .images instances.logoless instances.one instances.other logoless-one logoless-other logos
 
 -- ---- what is answered for the logo, item 3: its fields by the full list, by one without it that it is not known; and the full list refuses the other image
@@ -94,7 +95,8 @@ shown fields = record { kind = Signature signatures.logo; place = 0xE0; length =
 
 record Seen : Type 0 where
   known : answers Board full instances.one .item 3
-      ≡ says (shown (reader.board-fields (record { major = 1; minor = 0; length = 0x30; fields = Fields.Logo (record { place = 0x100; length = 0x10 }) })))
+      ≡ says (shown (reader.board-fields (
+      ("VerMajor", number 1) ∷ ("VerMinor", number 0) ∷ ("Length", number 0x30) ∷ ("LogoData", part 0x100 0x10) ∷ [])))
   unknown : answers Board instances.logoless instances.one .item 3 ≡ says (shown reader.notKnown)
   step : answers Board instances.logoless instances.one .walk 3 ≡ says (reader.item (shown reader.notKnown))
   refuses : answers Board full instances.other .judge ≡ refused 32 0xF0

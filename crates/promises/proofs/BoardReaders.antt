@@ -8,8 +8,7 @@ use lib.Dec.{eqb}
 use Rattle.board.specs.Answers.{mapRecordIf, mapRecordNumbered, isGpio, gpioRecord, gpioRecordsAt, gpioRecordIf, gpioRecordNumbered}
 use Rattle.board.specs.Items as board
 use Rattle.board.specs.Items.{itemAs}
-use Rattle.board.specs.Values.{gpioRecordSaid}
-use Rattle.board.specs.declared.GpioRecord.{GpioRecord}
+use Rattle.board.specs.Values.{itemFields, gpioRecordSaid}
 use Rattle.board.specs.declared.Item.{Item}
 use Rattle.board_layout.specs.Layout.{signatureAt, majorAt, shapeAt, structures, records}
 use Rattle.board_layout.specs.Shapes.{knows}
@@ -22,6 +21,7 @@ use Rattle.chain.specs.declared.Found.the-variants.{Nothing}
 use Rattle.kinds.specs.Kinds.{listed, Contains}
 use Rattle.kinds.specs.declared.Kind.the-variants.{Signature}
 use Rattle.kinds.specs.declared.Kinds.{Kinds}
+use Rattle.octets.specs.Rows.{Field}
 use Rattle.promises.proofs.Given.{view}
 use Rattle.promises.proofs.View.{itemFrom, at-number}
 use Rattle.promises.specs.Hidden.{has, hideFields, hideItem, hideEntry, hideRecord}
@@ -40,13 +40,8 @@ mark-hides true short long one h = refl
 mark-hides false true long one h = ap (λ (b : Bool). b && one) (sym (h refl))
 mark-hides false false long one h = refl
 
--- what is shown of a structure, by whether it is known
-fields-by : (b : Bool) (x : Item) → boardFields (cond b x Item.NotKnown) ≡ cond b (boardFields x) reader.notKnown
-fields-by true x = refl
-fields-by false x = refl
-
 -- structures show no strings
-board-hides : (k : Kinds) (x : Item) → hideFields k (boardFields x) ≡ boardFields x
+board-hides : (k : Kinds) (x : Item) → hideFields k (boardFields (itemFields x)) ≡ boardFields (itemFields x)
 board-hides k (Item.Known x) = refl
 board-hides k Item.NotKnown = refl
 
@@ -70,12 +65,12 @@ module _ (longer shorter : Kinds) (contains : Contains longer shorter) (s : List
         place = p;
         length = board.itemAt longer s p .length;
         fields =
-            (ap (λ (b : Bool). boardFields (cond b (itemAs s p (shapeAt s p)) Item.NotKnown)) (knows-hidden p)
+            (ap (λ (b : Bool). boardFields (itemFields (cond b (itemAs s p (shapeAt s p)) Item.NotKnown))) (knows-hidden p)
             ∙ go (has shorter (Signature (signatureAt s p))) (knows longer (shapeAt s p))) i;
       }
     where
-      go : (h b : Bool) → boardFields (cond (cond h b false) (itemAs s p (shapeAt s p)) Item.NotKnown)
-          ≡ cond h (hideFields shorter (boardFields (cond b (itemAs s p (shapeAt s p)) Item.NotKnown))) reader.notKnown
+      go : (h b : Bool) → boardFields (itemFields (cond (cond h b false) (itemAs s p (shapeAt s p)) Item.NotKnown))
+          ≡ cond h (hideFields shorter (boardFields (itemFields (cond b (itemAs s p (shapeAt s p)) Item.NotKnown)))) reader.notKnown
       go true b = sym (board-hides shorter (cond b (itemAs s p (shapeAt s p)) Item.NotKnown))
       go false b = refl
 
@@ -109,10 +104,10 @@ module _ (longer shorter : Kinds) (contains : Contains longer shorter) (s : List
         refl
         ∙ ap (λ (j : Judged). hideRecord shorter (itemFrom (view Board longer s) (nth (structures s) i)) (gpioRecordSaid (gpioRecordIf longer s i n j))) (sym e)
       where
-        said : Kinds → Found → Said GpioRecord
+        said : Kinds → Found → Said (List Field)
         said k f = gpioRecordSaid (gpioRecord s (gpioRecordsAt k s n f))
 
-        recordBy : ℕ → Bool → Said GpioRecord
+        recordBy : ℕ → Bool → Said (List Field)
         recordBy p b = gpioRecordSaid (gpioRecord s (cond b (nth (records Gpio s p) n) Nothing))
 
         go : (p : ℕ) (a h b : Bool) → recordBy p (a && cond h b false) ≡ cond h (recordBy p (a && b)) (refused 42 0)

@@ -19,7 +19,6 @@ use Rattle.promises.proofs.View as seen
 use Rattle.promises.specs.Answers.{furtherAnswers, answers}
 use Rattle.promises.specs.Demand3.{Accepted, StringsOf, TwoReaders, asStep, asEntry, SameItems, Demand3}
 use Rattle.promises.specs.Hidden.{hideItem, hideStep, hideEntry, hideList, hideSaid, hideRecord, hideFurther, hidden}
-use Rattle.promises.specs.SameOutside.{SameOutside}
 use Rattle.reader.specs.Formats.{judged, places}
 use Rattle.reader.specs.Values.{ItemValues, stepSaid}
 use Rattle.reader.specs.declared.Entry.{Entry}
@@ -108,11 +107,11 @@ module _ (longer shorter : Kinds) (contains : Contains longer shorter) (s : List
         }
 
 -- ---- two images
-images-alike : (f : Format) (k : Kinds) (s t : List ℕ) (c d : ℕ) → judged f k s ≡ verdict.Judged.Accepted c → judged f k t ≡ verdict.Judged.Accepted d
-    → SameOutside f k s t → answers f k s ≡ answers f k t
+-- in which the reader sees the same
+pub images-alike : (f : Format) (k : Kinds) (s t : List ℕ) (c d : ℕ) → judged f k s ≡ verdict.Judged.Accepted c → judged f k t ≡ verdict.Judged.Accepted d
+    → SeenAlike f k s t → answers f k s ≡ answers f k t
 unfolding answers
-images-alike f k s t c d e g same =
-    let both : SeenAlike f k s t = seen-alike f k s t c d e g same in
+images-alike f k s t c d e g both =
     let v = view f k s in
     let w = view f k t in
     answers-equal f (answers f k s) (answers f k t)
@@ -149,7 +148,10 @@ unfolding answers
 demand3 f =
     record {
       readers = λ longer shorter contains s a. two-readers longer shorter contains s f (a .0) (accepted-by f longer s (a .0) (a .1));
-      images = λ k s t a b same. images-alike f k s t (a .0) (b .0) (accepted-by f k s (a .0) (a .1)) (accepted-by f k t (b .0) (b .1)) same;
+      images = λ k s t a b same.
+          let e = accepted-by f k s (a .0) (a .1) in
+          let g = accepted-by f k t (b .0) (b .1) in
+          images-alike f k s t (a .0) (b .0) e g (seen-alike f k s t (a .0) (b .0) e g same);
       walks = λ k s i. ap (stepSaid (now s)) (walk-shows f s k i);
       calls = λ k s n said. same-items f k s n (accepted-by f k s n said);
     }

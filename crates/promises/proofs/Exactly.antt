@@ -11,7 +11,8 @@ use lib.ListN.{length}
 use Rattle.board.specs.Items as board
 use Rattle.board.specs.Items.{itemAs}
 use Rattle.board.specs.declared.Item as board-item
-use Rattle.board.specs.laws.Exactly as board-exactly
+use Rattle.board.specs.Values.{itemFields}
+use Rattle.board.specs.laws.Rows.{structure-rows}
 use Rattle.board_layout.specs.Layout.{signatureAt, majorAt, shapeAt}
 use Rattle.board_layout.specs.Shapes.{knows}
 use Rattle.board_layout.specs.laws.Shapes.{known-exactly}
@@ -65,10 +66,6 @@ tiny-filled (tiny-values.identity x) h = refl
 tiny-filled (tiny-values.batched x b) h = refl
 tiny-filled tiny-values.notKnown h = absurd h
 
-board-filled : (x : board-item.Item) → board-exactly.Filled x → isKnown (boardFields x) ≡ true
-board-filled (board-item.Item.Known x) h = refl
-board-filled board-item.Item.NotKnown h = absurd h
-
 pub fields-known : (f : Format) (k : Kinds) (s : List ℕ) (p : ℕ) → isKnown (view f k s .item p .fields) ≡ known f k s p
 unfolding tiny.itemAt board.itemAt
 fields-known Tiny k s p = go (listed k (Tag (byte s p))) refl
@@ -78,8 +75,8 @@ fields-known Tiny k s p = go (listed k (Tag (byte s p))) refl
     go false off = refl
 fields-known Board k s p = go (knows k (shapeAt s p)) refl
   where
-    go : (b : Bool) → knows k (shapeAt s p) ≡ b → isKnown (boardFields (cond b (itemAs s p (shapeAt s p)) board-item.Item.NotKnown)) ≡ b
-    go true on = board-filled (itemAs s p (shapeAt s p)) (board-exactly.known-filled k s p (shapeAt s p) on)
+    go : (b : Bool) → knows k (shapeAt s p) ≡ b → isKnown (boardFields (itemFields (cond b (itemAs s p (shapeAt s p)) board-item.Item.NotKnown))) ≡ b
+    go true on = ap (λ x. isKnown (boardFields x)) (structure-rows k s p (shapeAt s p) on)
     go false off = refl
 
 -- so an entry is that of its item

@@ -7,6 +7,7 @@ use mathlib.Core.Logic.{_⊎_, inl, inr}
 use mathlib.Core.Path.{_≡_, ap, _∙_}
 use Rattle.board.specs.Values.{mapRecordSaid, gpioRecordSaid}
 use Rattle.board.specs.declared.ShownItem as board-shown
+use Rattle.board.specs.NotShown as board-shows
 use Rattle.board.specs.laws.Alike as board
 use Rattle.board_layout.specs.Layout.{signatureAt, majorAt, shapeAt, structures}
 use Rattle.board_layout.specs.Places.{headSize}
@@ -46,14 +47,14 @@ board-alike k s t same = record { length = same .length; bytes = λ q h. go q (s
     unknown : (p : ℕ) → Lacks Board k s p → knows k (shapeAt s p) ≡ false
     unknown p lacks = known-exactly k (signatureAt s p) (majorAt s p) ∙ lacks
 
-    inside : (q : ℕ) → InsideUnknown Board k s q → board.InsideUnknown k s q
+    inside : (q : ℕ) → InsideUnknown Board k s q → board-shows.InsideUnknown k s q
     inside q u =
         record { number = u .number; place = u .place; stands = u .stands; property = unknown (u .place) (u .property); past = u .past; before = u .before }
 
-    go : (q : ℕ) → (byte s q ≡ byte t q) ⊎ (InCheck Board s q ⊎ InsideUnknown Board k s q) → (byte s q ≡ byte t q) ⊎ (board.InCheck q ⊎ board.InsideUnknown k s q)
+    go : (q : ℕ) → (byte s q ≡ byte t q) ⊎ (InCheck Board s q ⊎ InsideUnknown Board k s q) → (byte s q ≡ byte t q) ⊎ board-shows.NotShown k s q
     go q (inl e) = inl e
-    go q (inr (inl h)) = inr (inl h)
-    go q (inr (inr u)) = inr (inr (inside q u))
+    go q (inr (inl h)) = inr (board-shows.check h)
+    go q (inr (inr u)) = inr (board-shows.unknown (inside q u))
 
 -- ---- what is seen in both
 pub record SeenAlike (f : Format) (k : Kinds) (s t : List ℕ) : Type 0 where
@@ -87,11 +88,10 @@ module _ (k : Kinds) (s t : List ℕ) (c d : ℕ) (e : judged Tiny k s ≡ Accep
       shown : tiny-values.ItemValues → ItemValues
       shown v = record { kind = Tag (v .kind); place = v .place; length = v .length; fields = tinyFields (v .fields) }
 
-module _ (k : Kinds) (s t : List ℕ) (c d : ℕ) (e : judged Board k s ≡ Accepted c) (g : judged Board k t ≡ Accepted d) (same : SameOutside Board k s t) where
-  board-seen : SeenAlike Board k s t
+module _ (k : Kinds) (s t : List ℕ) (c d : ℕ) (e : judged Board k s ≡ Accepted c) (g : judged Board k t ≡ Accepted d) (alike : board.Alike k s t) where
+  pub board-seen : SeenAlike Board k s t
   unfolding entryAt
   board-seen =
-      let alike : board.Alike k s t = board-alike k s t same in
       record {
         places = board.structures-alike k s t c e alike;
         items = all-of-nth (λ p. view Board k s .item p ≡ view Board k t .item p) (structures s) (λ i p at. ap shown (board.item-alike k s t c e alike i p at));
@@ -116,4 +116,4 @@ module _ (k : Kinds) (s t : List ℕ) (c d : ℕ) (e : judged Board k s ≡ Acce
 
 pub seen-alike : (f : Format) (k : Kinds) (s t : List ℕ) (c d : ℕ) → judged f k s ≡ Accepted c → judged f k t ≡ Accepted d → SameOutside f k s t → SeenAlike f k s t
 seen-alike Tiny = tiny-seen
-seen-alike Board = board-seen
+seen-alike Board = λ k s t c d e g same. board-seen k s t c d e g (board-alike k s t same)

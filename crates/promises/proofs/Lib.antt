@@ -9,6 +9,8 @@ pub mod BoardReaders
 pub mod Images
 pub mod Exactly
 pub mod Demand3
+pub mod Complete
 pub mod Differ
 pub mod TinyExamples
 pub mod BoardExamples
+pub mod CompleteExamples

@@ -4,9 +4,8 @@ use Prim.Native.Nat.{ℕ}
 use mathlib.Core.List.{List}
 use Rattle.board.specs.Answers.{mapRecordNumbered, gpioRecordNumbered}
 use Rattle.board.specs.Values.{mapRecordSaid, gpioRecordSaid}
-use Rattle.board.specs.declared.GpioRecord.{GpioRecord}
-use Rattle.board.specs.declared.MapRecord.{MapRecord}
 use Rattle.kinds.specs.declared.Kinds.{Kinds}
+use Rattle.octets.specs.Rows.{Field}
 use Rattle.reader.specs.Answers.{itemNumbered, listOf}
 use Rattle.reader.specs.Formats.{judged}
 use Rattle.reader.specs.Values as reader
@@ -29,8 +28,8 @@ pub record TinyAnswers : Type 0 where
 
 -- and board images: record n of the map, record n of the GPIO data that are item i. (The paper compares the other six calls; these show more of known items.)
 pub record BoardAnswers : Type 0 where
-  pub mapRecord : ℕ → Said MapRecord
-  pub gpioRecord : ℕ → ℕ → Said GpioRecord
+  pub mapRecord : ℕ → Said (List Field)
+  pub gpioRecord : ℕ → ℕ → Said (List Field)
 
 abbrev pub FurtherAnswers : Format → Type 0
 FurtherAnswers Tiny = TinyAnswers

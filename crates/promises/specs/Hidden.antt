@@ -4,12 +4,12 @@ use Prim.Native.Nat.{ℕ}
 use mathlib.Core.Bool.{Bool, false, cond, _&&_, _||_}
 use mathlib.Core.List.{List, _++_, map}
 use lib.ListN.{take, drop}
-use Rattle.board.specs.declared.GpioRecord.{GpioRecord}
 use Rattle.board_layout.specs.laws.Shapes.{onEveryList}
 use Rattle.kinds.specs.Kinds.{listed}
 use Rattle.kinds.specs.declared.Kind.{Kind}
 use Rattle.kinds.specs.declared.Kind.the-variants.{Tag, Signature}
 use Rattle.kinds.specs.declared.Kinds.{Kinds}
+use Rattle.octets.specs.Rows.{Field}
 use Rattle.promises.specs.Answers.{FurtherAnswers, Answers}
 use Rattle.reader.specs.Formats.{asKind}
 use Rattle.reader.specs.Values as reader
@@ -89,7 +89,7 @@ hideSaid hide (says x) = says (hide x)
 hideSaid hide (refused n p) = refused n p
 
 -- a record of item i, by what the longer says of that item: 42 where the list lacks its kind
-abbrev pub hideRecord : Kinds → Said ItemValues → Said GpioRecord → Said GpioRecord
+abbrev pub hideRecord : Kinds → Said ItemValues → Said (List Field) → Said (List Field)
 hideRecord k (says x) r = cond (has k (x .kind)) r (refused 42 0)
 hideRecord k (refused n p) r = r
 

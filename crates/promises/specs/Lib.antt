@@ -5,6 +5,7 @@ pub mod SameOutside
 pub mod Demand1
 pub mod Demand2
 pub mod Demand3
+pub mod Complete
 pub mod Asked
 pub mod TinyInstances
 pub mod BoardInstances

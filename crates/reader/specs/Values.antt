@@ -2,10 +2,10 @@
 -- list that was filled. What the demands say of two readers or two images is said of these values. Assumes nothing.
 use Prim.Native.Nat.{ℕ}
 use mathlib.Core.List.{List}
-use Rattle.board.specs.declared.Item as board-item
-use Rattle.board.specs.declared.Known.{Known}
+use Rattle.board.specs.Values as board
 use Rattle.kinds.specs.declared.Kind.{Kind}
 use Rattle.kinds.specs.declared.Kind.the-variants.{Tag, Signature}
+use Rattle.octets.specs.Rows.{Field}
 use Rattle.reader.specs.declared.Item.{Item}
 use Rattle.reader.specs.declared.ItemAnswer.{ItemAnswer}
 use Rattle.reader.specs.declared.ListAnswer.{ListAnswer}
@@ -16,7 +16,7 @@ use Rattle.verdict.specs.Said.{Said, says, refused}
 -- the fields of a known item of a tiny image, or of a known structure; "An item not known shows only its kind, place and length."
 pub data FieldValues : Type 0 where
   tiny-fields : tiny.FieldValues → FieldValues
-  board-fields : Known → FieldValues
+  board-fields : List Field → FieldValues
   notKnown : FieldValues
 
 -- kind, place and data length of every item, and its fields
@@ -35,13 +35,13 @@ tinyFields (tiny.identity x) = tiny-fields (tiny.identity x)
 tinyFields (tiny.batched x b) = tiny-fields (tiny.batched x b)
 tinyFields tiny.notKnown = notKnown
 
-abbrev pub boardFields : board-item.Item → FieldValues
-boardFields (board-item.Item.Known x) = board-fields x
-boardFields board-item.Item.NotKnown = notKnown
+abbrev pub boardFields : board.FieldValues → FieldValues
+boardFields (board.fields l) = board-fields l
+boardFields board.notKnown = notKnown
 
 abbrev pub itemValues : List ℕ → Item → ItemValues
 itemValues s (Item.Tiny x) = record { kind = Tag (x .tag); place = x .place; length = x .length; fields = tinyFields (tiny.fieldValues s (x .item)) }
-itemValues s (Item.Board x) = record { kind = Signature (x .signature); place = x .place; length = x .length; fields = boardFields (x .item) }
+itemValues s (Item.Board x) = record { kind = Signature (x .signature); place = x .place; length = x .length; fields = boardFields (board.itemFields (x .item)) }
 
 -- item by number
 abbrev pub itemSaid : List ℕ → ItemAnswer → Said ItemValues

@@ -11,3 +11,4 @@ pub mod Part
 pub mod Exactly
 pub mod Front
 pub mod Bounds
+pub mod Told

@@ -7,3 +7,4 @@ pub mod Along
 pub mod Tags
 pub mod Pool
 pub mod Same
+pub mod Split

@@ -1,6 +1,6 @@
--- Two images of one length that differ only inside structures that the list does not know and in Crc32: where the first is accepted, both have the same
--- structures, and show the same items, map records and GPIO records. So two accepted images have the same count and get the same answers. Each byte of a head
--- lies outside the data of every structure, and each byte of a known structure outside the data of those not known. Assumes nothing.
+-- Two images of one length that differ in no byte that is shown: where the first is accepted, both have the same structures, and show the same items, map records
+-- and GPIO records. So two accepted images have the same count and get the same answers. Each byte of a head, of a field and of a record's field is shown, Crc32
+-- left out, whatever structure it might lie in. Assumes nothing.
 use Prim.Native.Nat.{ℕ, _+_, _≤_, _<_}
 use mathlib.Core.Bool.{Bool, true, false, cond, _&&_, false≢true, and-eq-true-iff}
 use mathlib.Core.List.{List}
@@ -10,57 +10,53 @@ use native.Mathlib.Omega.{arith}
 use lib.ListN.{length}
 use Rattle.board.specs.Answers.{numbered, itemIf, itemNumbered, mapRecord, mapRecordIf, mapRecordNumbered, isGpio, gpioRecordsAt, gpioRecord, gpioRecordIf, gpioRecordNumbered}
 use Rattle.board.specs.Items.{itemAs, itemAt}
+use Rattle.board.specs.NotShown.{InCheck, Raised, InRecord, NotShown, check, unknown, reserved, recordReserved, following}
 use Rattle.board.specs.declared.GpioRecordAnswer.{GpioRecordAnswer}
 use Rattle.board.specs.declared.ItemAnswer.{ItemAnswer}
 use Rattle.board.specs.declared.MapRecordAnswer.{MapRecordAnswer}
 use Rattle.board.specs.laws.Shown.{header-same, fields-same, item-same, map-record-at-same, gpio-record-at-same}
 use Rattle.board_layout.specs.Layout.{lengthAt, shapeAt, structLen, endAt, next, structures, mapAt, recordSize, dataOffset, records}
-use Rattle.board_layout.specs.Places.{headSize, Crc32, MapData, mapRecordSize}
-use Rattle.board_layout.specs.Shapes.{shapeOf, knows}
+use Rattle.board_layout.specs.Places.{headSize, MapData, mapRecordSize}
+use Rattle.board_layout.specs.Shapes.{shapeOf, knows, reservedFrom, reservedTo, HasRecords}
+use Rattle.board_layout.specs.declared.Records.{Records}
 use Rattle.board_layout.specs.declared.Records.the-variants.{Map, Gpio}
 use Rattle.board_layout.specs.declared.Shape.{Shape}
 use Rattle.board_layout.specs.declared.Shape.the-variants.{Eeprom, EeprMap, BrdInfo, PromSig, AcpiTbl, FpgaNfo, GpioDat, HdCodec, Logo, MemCnfg, MacInfo, UCode, Video, Other}
-use Rattle.board_layout.specs.laws.Layout.{next-far, next-grows, end-next}
-use Rattle.board_layout.specs.laws.Same.{shape-same, end-same, next-same, records-same, structures-agree}
+use Rattle.board_layout.specs.laws.Layout.{next-far, next-grows, end-next, record-size}
+use Rattle.board_layout.specs.laws.Tables.{reserved-row}
+use Rattle.board_layout.specs.laws.Same.{minor-same, shape-same, end-same, next-same, records-same, structures-agree}
+use Rattle.board_records.specs.Records.{recordFrom, recordTo}
 use Rattle.board_rules.specs.Judged.{judged}
 use Rattle.board_rules.specs.laws.Accepted.{accepted-count, header-is, header-length, map-place, map-second, structures-are, structures-fit, records-fit}
+use Rattle.board_rules.specs.laws.Rows.{Placed, structures-placed}
 use Rattle.board_rules.specs.laws.Tables.{Holds, fields-hold, Whole, gpio-whole}
 use Rattle.board_rules.specs.laws.Walk.{Fits}
 use Rattle.chain.specs.All.{All}
-use Rattle.chain.specs.Inside.{Inside}
+use Rattle.chain.specs.Chain.{ahead}
 use Rattle.chain.specs.Nth.{nth}
 use Rattle.chain.specs.declared.Found.{Found}
 use Rattle.chain.specs.declared.Found.the-variants.{At, Nothing}
 use Rattle.chain.specs.laws.Chain.{chain-more}
-use Rattle.chain.specs.laws.Inside.{inside-own}
+use Rattle.chain.specs.laws.Apart.{chain-apart}
 use Rattle.chain.specs.laws.Nth.{nth-all, all-of-nth}
-use Rattle.chain.specs.laws.Places.{chain-all}
+use Rattle.chain.specs.laws.Places.{chain-within, chain-all}
+use Rattle.chain.specs.laws.Steps.{ahead-grows}
 use Rattle.kinds.specs.declared.Kinds.{Kinds}
 use Rattle.octets.specs.Bytes.{byte}
 use Rattle.octets.specs.laws.Same.{Same}
 use Rattle.verdict.specs.declared.Judged.the-variants.{Accepted}
 
--- ---- the premise, in the paper's words
--- the place lies in Crc32, the check field
-abbrev pub InCheck : ℕ → Type 0
-InCheck q = (Crc32 ≤ q) × (q < Crc32 + 4)
-
 -- structure i starts at p
 abbrev pub Stands : List ℕ → ℕ → ℕ → Type 0
 Stands s i p = nth (structures s) i ≡ At p
 
--- the place lies "inside" a structure that the list does not know: in "its data: .. past the generic head"
-abbrev pub InsideUnknown : Kinds → List ℕ → ℕ → Type 0
-InsideUnknown k s q = Inside (structures s) (λ p. knows k (shapeAt s p) ≡ false) (λ p. p + headSize) (endAt s) q
-
--- "two .. images of one length that differ only inside items that it does not know and in their check fields". "An image's length is .. StructLen; what is
--- lent past it may differ."
+-- two images of one length that differ in no byte that is shown. "An image's length is .. StructLen; what is lent past it may differ."
 pub record Alike (k : Kinds) (s t : List ℕ) : Type 0 where
   pub length : structLen s ≡ structLen t
-  pub bytes : (q : ℕ) → q < structLen s → (byte s q ≡ byte t q) ⊎ (InCheck q ⊎ InsideUnknown k s q)
+  pub bytes : (q : ℕ) → q < structLen s → (byte s q ≡ byte t q) ⊎ NotShown k s q
 
 -- only one table is that of GPIO data
-gpio-shape : (a : Shape) → isGpio a ≡ true → a ≡ GpioDat
+pub gpio-shape : (a : Shape) → isGpio a ≡ true → a ≡ GpioDat
 gpio-shape Eeprom e = absurd (false≢true e)
 gpio-shape EeprMap e = absurd (false≢true e)
 gpio-shape BrdInfo e = absurd (false≢true e)
@@ -75,6 +71,11 @@ gpio-shape MacInfo e = absurd (false≢true e)
 gpio-shape UCode e = absurd (false≢true e)
 gpio-shape Video e = absurd (false≢true e)
 gpio-shape Other e = absurd (false≢true e)
+
+-- the second structure is the map
+pub map-shape : (k : Kinds) (s : List ℕ) (c : ℕ) → judged k s ≡ Accepted c → shapeAt s (mapAt s) ≡ EeprMap
+unfolding shapeAt shapeOf
+map-shape k s c e = rw (map-second k s c e .1)
 
 module _ (k : Kinds) (s t : List ℕ) (c : ℕ) (e : judged k s ≡ Accepted c) (alike : Alike k s t) where
   -- the first two
@@ -105,10 +106,63 @@ module _ (k : Kinds) (s t : List ℕ) (c : ℕ) (e : judged k s ≡ Accepted c) 
       ))
 
   -- ---- the bytes of a structure
-  -- where a byte of it lies inside one that is not known, that is itself
-  own : (i p q : ℕ) → Stands s i p → p ≤ q → q < next s p → (u : InsideUnknown k s q) → u .place ≡ p
-  own =
-      inside-own (next s) (structLen s) (next-grows s) 0 (λ p. knows k (shapeAt s p) ≡ false) (λ p. p + headSize) (endAt s) (λ p. omega arith) (end-next s)
+  -- a place lies in one structure only
+  own : (i p j r q : ℕ) → Stands s i p → Stands s j r → p ≤ q → q < next s p → r ≤ q → q < next s r → r ≡ p
+  own i p j r q at stands a b c d =
+      elim (chain-apart (next s) (structLen s) (next-grows s) 0 i j p r at stands) [
+        | inl z ↦ sym z
+        | inr (inl z) ↦ absurd (omega arith)
+        | inr (inr z) ↦ absurd (omega arith)
+      ]
+
+  -- the Reserved row of a known structure ends before the next one
+  row-next : (i p : ℕ) → Stands s i p → knows k (shapeAt s p) ≡ true → p + reservedTo (shapeAt s p) ≤ next s p
+  unfolding endAt
+  row-next i p at known =
+      omega (arith, nth-all (Placed k s) (structures s) i p (structures-placed k s c e) at .row known, end-next s p)
+
+  -- the records of a structure start past its Reserved row
+  records-start : (which : Records) (p r j : ℕ) → HasRecords which (shapeAt s p) → nth (records which s p) j ≡ At r → p + reservedTo (shapeAt s p) ≤ r
+  unfolding records
+  records-start which p r j has stands =
+      omega (
+        arith,
+        nth-all (λ x. (p + dataOffset which ≤ x) × (x < endAt s p)) (records which s p) j r
+            (chain-within (ahead (recordSize which)) (endAt s p) (ahead-grows (recordSize which) (omega (arith, record-size which .0))) (p + dataOffset which))
+            stands .0,
+        row which has,
+      )
+    where
+      row : (which : Records) → HasRecords which (shapeAt s p) → reservedTo (shapeAt s p) ≡ dataOffset which
+      row Map has = ap reservedTo has
+      row Gpio has = ap reservedTo has
+
+  -- what is not shown of the structure at p, outside Crc32: its data where it is not known, and past its fields where it is
+  abbrev Past : ℕ → ℕ → Type 0
+  Past p q = ((knows k (shapeAt s p) ≡ false) × (p + headSize ≤ q)) ⊎ ((knows k (shapeAt s p) ≡ true) × (p + reservedFrom (shapeAt s p) ≤ q))
+
+  past : (i p q : ℕ) → Stands s i p → p ≤ q → q < next s p → NotShown k s q → InCheck q ⊎ Past p q
+  past i p q at a b (check h) = inl h
+  past i p q at a b (unknown u) =
+      let z : u .place ≡ p = own i p (u .number) (u .place) q at (u .stands) a b (omega (arith, u .past)) (omega (arith, u .before, end-next s (u .place))) in
+      inr (subst (λ (x : ℕ). Past x q) z (inl (u .property, u .past)))
+  past i p q at a b (reserved u) =
+      let r : ℕ = u .place in
+      let w = row-next (u .number) r (u .stands) (u .property .0) in
+      let z : r ≡ p = own i p (u .number) r q at (u .stands) a b (omega (arith, u .past)) (omega (arith, u .before, w)) in
+      inr (subst (λ (x : ℕ). Past x q) z (inr (u .property .0, u .past)))
+  past i p q at a b (recordReserved which u) =
+      let r : ℕ = u .place in
+      let v = u .property .2 in
+      let z : r ≡ p = own i p (u .number) r q at (u .stands) a b (u .past) (omega (arith, u .before, end-next s r)) in
+      inr (subst (λ (x : ℕ). Past x q) z (inr (
+        u .property .0 .0,
+        omega (arith, v .past, records-start which r (v .place) (v .number) (u .property .1) (v .stands), reserved-row (shapeAt s r) .1),
+      )))
+  past i p q at a b (following u) =
+      let r : ℕ = u .place in
+      let z : r ≡ p = own i p (u .number) r q at (u .stands) a b (omega (arith, u .past)) (omega (arith, u .before, end-next s r)) in
+      inr (subst (λ (x : ℕ). Past x q) z (inr (u .property .0, omega (arith, u .past, reserved-row (shapeAt s r) .1))))
 
   -- the head agrees
   pub head-alike : (i p : ℕ) → Stands s i p → Same s t p (p + headSize)
@@ -118,25 +172,83 @@ module _ (k : Kinds) (s t : List ℕ) (c : ℕ) (e : judged k s ≡ Accepted c) 
       clear (inl z) h = omega (arith, b, z, h .0)
       clear (inr z) h = omega (arith, a, z, h .1)
 
-      go : (byte s q ≡ byte t q) ⊎ (InCheck q ⊎ InsideUnknown k s q) → byte s q ≡ byte t q
+      go : (byte s q ≡ byte t q) ⊎ NotShown k s q → byte s q ≡ byte t q
       go (inl d) = d
-      go (inr (inl h)) = absurd (clear (starts i p at) h)
-      go (inr (inr u)) = absurd (omega (arith, b, u .past, own i p q at a (omega (arith, b, next-far s p)) u))
+      go (inr u) =
+          elim (past i p q at a (omega (arith, b, next-far s p)) u) [
+            | inl h ↦ absurd (clear (starts i p at) h)
+            | inr (inl h) ↦ absurd (omega (arith, b, h .1))
+            | inr (inr h) ↦ absurd (omega (arith, b, h .1, reserved-row (shapeAt s p) .0))
+          ]
 
-  -- and so does a known structure, outside Crc32
-  outside-check : (i p : ℕ) → Stands s i p → knows k (shapeAt s p) ≡ true → (q : ℕ) → p ≤ q → q < endAt s p → (InCheck q → ⊥) → byte s q ≡ byte t q
-  outside-check i p at known q a b never = go (alike .bytes q (omega (arith, b, fit i p at .ends)))
+  -- and so do the fields of a known structure, outside Crc32
+  outside-check : (i p : ℕ) → Stands s i p → knows k (shapeAt s p) ≡ true → (q : ℕ) → p ≤ q → q < p + reservedFrom (shapeAt s p) → (InCheck q → ⊥) → byte s q ≡ byte t q
+  unfolding endAt
+  outside-check i p at known q a b never =
+      let w : reservedFrom (shapeAt s p) ≤ lengthAt s p = nth-all (Holds k s) (structures s) i p (fields-hold k s c e) at known in
+      elim (alike .bytes q (omega (arith, b, w, fit i p at .ends))) [
+        | inl d ↦ d
+        | inr u ↦ elim (past i p q at a (omega (arith, b, w, end-next s p)) u) [
+          | inl h ↦ absurd (never h)
+          | inr (inl h) ↦ absurd (false≢true (sym (h .0) ∙ known))
+          | inr (inr h) ↦ absurd (omega (arith, b, h .1))
+        ]
+      ]
+
+  -- of one past the header all fields agree
+  fields-alike : (i p : ℕ) → Stands s i p → 0x20 ≤ p → knows k (shapeAt s p) ≡ true → Same s t p (p + reservedFrom (shapeAt s p))
+  fields-alike i p at far known q a b = outside-check i p at known q a b (λ h. omega (arith, a, far, h .1))
+
+  -- and so do those of its records
+  record-alike : (which : Records) (i p : ℕ) → Stands s i p → 0x20 ≤ p → knows k (shapeAt s p) ≡ true → HasRecords which (shapeAt s p)
+      → (j r : ℕ) → nth (records which s p) j ≡ At r → r + recordFrom which ≤ endAt s p → Same s t r (r + recordFrom which)
+  unfolding records
+  record-alike which i p at far known has j r stands w q a b =
+      elim (alike .bytes q (omega (arith, b, w, fit i p at .ends))) [ inl d ↦ d | inr u ↦ absurd (never u) ]
     where
-      go : (byte s q ≡ byte t q) ⊎ (InCheck q ⊎ InsideUnknown k s q) → byte s q ≡ byte t q
-      go (inl d) = d
-      go (inr (inl h)) = absurd (never h)
-      go (inr (inr u)) =
-          absurd
-          (false≢true (sym (u .property) ∙ ap (λ (x : ℕ). knows k (shapeAt s x)) (own i p q at a (omega (arith, b, end-next s p)) u) ∙ known))
+      start : p + reservedTo (shapeAt s p) ≤ r
+      start = records-start which p r j has stands
 
-  -- one past the header agrees whole
-  pub known-alike : (i p : ℕ) → Stands s i p → 0x20 ≤ p → knows k (shapeAt s p) ≡ true → Same s t p (endAt s p)
-  known-alike i p at far known q a b = outside-check i p at known q a b (λ h. omega (arith, a, far, h .1))
+      here : (n o : ℕ) → Stands s n o → o ≤ q → q < next s o → o ≡ p
+      here n o other x y = own i p n o q at other (omega (arith, a, start)) (omega (arith, b, w, end-next s p)) x y
+
+      -- a structure has records of one kind only
+      one-kind : (x y : Records) → HasRecords x (shapeAt s p) → HasRecords y (shapeAt s p) → x ≡ y
+      one-kind Map Map f g = refl
+      one-kind Map Gpio f g = let z : EeprMap ≡ GpioDat = sym f ∙ g in cc
+      one-kind Gpio Map f g = let z : EeprMap ≡ GpioDat = sym g ∙ f in cc
+      one-kind Gpio Gpio f g = refl
+
+      size : (x : Records) → recordTo x ≡ recordSize x
+      size Map = refl
+      size Gpio = refl
+
+      in-record : InRecord k s which q p → ⊥
+      in-record v =
+          elim (chain-apart (ahead (recordSize which)) (endAt s p) (ahead-grows (recordSize which) (omega (arith, record-size which .0))) (p + dataOffset which)
+          j (v .number) r (v .place) stands (v .stands)) [
+            | inl z ↦ omega (arith, b, v .past, z)
+            | inr (inl z) ↦ omega (arith, b, v .past, z, record-size which .0)
+            | inr (inr z) ↦ omega (arith, a, v .before, z, size which)
+          ]
+
+      never : NotShown k s q → ⊥
+      never (check h) = omega (arith, a, start, far, h .1)
+      never (unknown u) =
+          let z : u .place ≡ p = here (u .number) (u .place) (u .stands) (omega (arith, u .past)) (omega (arith, u .before, end-next s (u .place))) in
+          false≢true (sym (u .property) ∙ ap (λ (x : ℕ). knows k (shapeAt s x)) z ∙ known)
+      never (reserved u) =
+          let o : ℕ = u .place in
+          let v = row-next (u .number) o (u .stands) (u .property .0) in
+          let z : o ≡ p = here (u .number) o (u .stands) (omega (arith, u .past)) (omega (arith, u .before, v)) in
+          omega (arith, a, start, subst (λ (x : ℕ). q < x + reservedTo (shapeAt s x)) z (u .before))
+      never (recordReserved other u) =
+          let z : u .place ≡ p = here (u .number) (u .place) (u .stands) (u .past) (omega (arith, u .before, end-next s (u .place))) in
+          let v = subst (λ (x : ℕ). HasRecords other (shapeAt s x) × InRecord k s other q x) z (u .property .1, u .property .2) in
+          in-record (subst (λ (x : Records). InRecord k s x q p) (one-kind other which (v .0) has) (v .1))
+      never (following u) =
+          let z : u .place ≡ p = here (u .number) (u .place) (u .stands) (omega (arith, u .past)) (omega (arith, u .before, end-next s (u .place))) in
+          u .property .1 which (subst (λ (x : ℕ). HasRecords which (shapeAt s x)) (sym z) has)
 
   -- ---- the same structures, and the same items
   pub structures-alike : structures s ≡ structures t
@@ -152,7 +264,7 @@ module _ (k : Kinds) (s t : List ℕ) (c : ℕ) (e : judged k s ≡ Accepted c) 
   unfolding endAt
   header-alike =
       let known : knows k (shapeAt s 0) ≡ true = ap (knows k) header-shape in
-      let h : 0x20 ≤ lengthAt s 0 = header-length k s c e .0 in
+      let h : reservedFrom (shapeAt s 0) ≡ 0x20 = ap reservedFrom header-shape in
       header-same s t 0 (head-alike 0 0 header-stands)
       (λ q a b. outside-check 0 0 header-stands known q a (omega arith) (λ x. omega (arith, b, x .0)))
       (λ q a b. outside-check 0 0 header-stands known q (omega arith) (omega arith) (λ x. omega (arith, a, x .1)))
@@ -167,8 +279,7 @@ module _ (k : Kinds) (s t : List ℕ) (c : ℕ) (e : judged k s ≡ Accepted c) 
           subst (λ (x : ℕ). itemAs s x (shapeAt s x) ≡ itemAs t x (shapeAt s x)) (sym z)
           (subst (λ (a : Shape). itemAs s 0 a ≡ itemAs t 0 a) (sym header-shape) header-alike)
       go known (inr far) =
-          fields-same s t p (head-alike i p at) (endAt s p) (known-alike i p at far known) (shapeAt s p)
-          (omega (arith, nth-all (Holds k s) (structures s) i p (fields-hold k s c e) at known))
+          fields-same s t p (head-alike i p at) (p + reservedFrom (shapeAt s p)) (fields-alike i p at far known) (shapeAt s p) (omega arith)
 
   -- and so the item of each number
   pub numbered-alike : (n : ℕ) → numbered k s (nth (structures s) n) ≡ numbered k t (nth (structures t) n)
@@ -180,30 +291,87 @@ module _ (k : Kinds) (s t : List ℕ) (c : ℕ) (e : judged k s ≡ Accepted c) 
 
   -- the other image is alike as well: the premise is worded by the first one's structures
   pub alike-back : Alike k t s
-  alike-back = record { length = sym (alike .length); bytes = λ q h. go q (alike .bytes q (omega (arith, h, alike .length))) }
+  alike-back =
+      record {
+        length = sym (alike .length);
+        bytes = λ q h.
+            elim (alike .bytes q (omega (arith, h, alike .length))) [ inl d ↦ inl (sym d) | inr u ↦ inr (back q u) ];
+      }
     where
-      inside : (q : ℕ) → InsideUnknown k s q → InsideUnknown k t q
-      inside q u =
-          let head : Same s t (u .place) (u .place + headSize) = head-alike (u .number) (u .place) (u .stands) in
+      stand : (i p : ℕ) → Stands s i p → Stands t i p
+      stand i p at = ap (λ (l : List ℕ). nth l i) (sym structures-alike) ∙ at
+
+      shape : (i p : ℕ) → Stands s i p → shapeAt s p ≡ shapeAt t p
+      shape i p at = shape-same s t p (head-alike i p at)
+
+      has : (which : Records) (i p : ℕ) → Stands s i p → (HasRecords which (shapeAt s p) → HasRecords which (shapeAt t p)) × (HasRecords which (shapeAt t p) → HasRecords which (shapeAt s p))
+      has Map i p at = (λ h. sym (shape i p at) ∙ h, λ h. shape i p at ∙ h)
+      has Gpio i p at = (λ h. sym (shape i p at) ∙ h, λ h. shape i p at ∙ h)
+
+      in-record : (which : Records) (i p q : ℕ) → Stands s i p → InRecord k s which q p → InRecord k t which q p
+      in-record which i p q at v =
           record {
-            number = u .number;
-            place = u .place;
-            stands = ap (λ (l : List ℕ). nth l (u .number)) (sym structures-alike) ∙ u .stands;
-            property = ap (knows k) (sym (shape-same s t (u .place) head)) ∙ u .property;
-            past = u .past;
-            before = omega (arith, u .before, end-same s t (u .place) head);
+            number = v .number;
+            place = v .place;
+            stands = ap (λ (l : List ℕ). nth l (v .number)) (sym (records-same s t p (head-alike i p at) which)) ∙ v .stands;
+            property = tt;
+            past = v .past;
+            before = v .before;
           }
 
-      go : (q : ℕ) → (byte s q ≡ byte t q) ⊎ (InCheck q ⊎ InsideUnknown k s q) → (byte t q ≡ byte s q) ⊎ (InCheck q ⊎ InsideUnknown k t q)
-      go q (inl d) = inl (sym d)
-      go q (inr (inl h)) = inr (inl h)
-      go q (inr (inr u)) = inr (inr (inside q u))
+      raised : (i p : ℕ) → Stands s i p → Raised k s p → Raised k t p
+      raised i p at w = (ap (knows k) (sym (shape i p at)) ∙ w .0, omega (arith, w .1, minor-same s t p (head-alike i p at)))
+
+      back : (q : ℕ) → NotShown k s q → NotShown k t q
+      back q (check h) = check h
+      back q (unknown u) =
+          unknown (record {
+            number = u .number;
+            place = u .place;
+            stands = stand (u .number) (u .place) (u .stands);
+            property = ap (knows k) (sym (shape (u .number) (u .place) (u .stands))) ∙ u .property;
+            past = u .past;
+            before = omega (arith, u .before, end-same s t (u .place) (head-alike (u .number) (u .place) (u .stands)));
+          })
+      back q (reserved u) =
+          reserved (record {
+            number = u .number;
+            place = u .place;
+            stands = stand (u .number) (u .place) (u .stands);
+            property = raised (u .number) (u .place) (u .stands) (u .property);
+            past = omega (arith, u .past, ap reservedFrom (shape (u .number) (u .place) (u .stands)));
+            before = omega (arith, u .before, ap reservedTo (shape (u .number) (u .place) (u .stands)));
+          })
+      back q (recordReserved which u) =
+          recordReserved which (record {
+            number = u .number;
+            place = u .place;
+            stands = stand (u .number) (u .place) (u .stands);
+            property = (
+              raised (u .number) (u .place) (u .stands) (u .property .0),
+              has which (u .number) (u .place) (u .stands) .0 (u .property .1),
+              in-record which (u .number) (u .place) q (u .stands) (u .property .2),
+            );
+            past = u .past;
+            before = omega (arith, u .before, end-same s t (u .place) (head-alike (u .number) (u .place) (u .stands)));
+          })
+      back q (following u) =
+          following (record {
+            number = u .number;
+            place = u .place;
+            stands = stand (u .number) (u .place) (u .stands);
+            property = (
+              ap (knows k) (sym (shape (u .number) (u .place) (u .stands))) ∙ u .property .0,
+              λ which h. u .property .1 which (has which (u .number) (u .place) (u .stands) .1 h),
+            );
+            past = omega (arith, u .past, ap reservedTo (shape (u .number) (u .place) (u .stands)));
+            before = omega (arith, u .before, end-same s t (u .place) (head-alike (u .number) (u .place) (u .stands)));
+          })
 
   -- ---- the same map records
   -- the map is known to every list, and lies at one place in both
   map-known : knows k (shapeAt s (mapAt s)) ≡ true
-  unfolding shapeAt shapeOf
-  map-known = rw (map-second k s c e .1)
+  map-known = ap (knows k) (map-shape k s c e)
 
   map-place-alike : mapAt s ≡ mapAt t
   unfolding mapAt
@@ -219,7 +387,8 @@ module _ (k : Kinds) (s t : List ℕ) (c : ℕ) (e : judged k s ≡ Accepted c) 
       go (At r) d =
           let w = nth-all (λ x. (mapAt s + MapData ≤ x) × (x + mapRecordSize ≤ endAt s (mapAt s))) (records Map s (mapAt s)) n r (records-fit k s c e) d in
           ap MapRecordAnswer.Shown
-          (map-record-at-same s t (mapAt s) (endAt s (mapAt s)) (known-alike 1 (mapAt s) map-stands map-far map-known) r (omega (arith, w .0)) (w .1))
+          (map-record-at-same s t r (r + recordFrom Map)
+          (record-alike Map 1 (mapAt s) map-stands map-far map-known (map-shape k s c e) n r d (omega (arith, w .1))) r (omega arith) (omega arith))
       go Nothing d = refl
 
   -- ---- the same GPIO records
@@ -243,7 +412,8 @@ module _ (k : Kinds) (s t : List ℕ) (c : ℕ) (e : judged k s ≡ Accepted c) 
           let w = nth-all (λ x. (p + dataOffset Gpio ≤ x) × (x + recordSize Gpio ≤ endAt s p)) (records Gpio s p) n r
           (nth-all (Whole k s) (structures s) i p (gpio-whole k s c e) at known (gpio-shape (shapeAt s p) g)) d in
           ap GpioRecordAnswer.Shown
-          (gpio-record-at-same s t p (endAt s p) (known-alike i p at (gpio-far i p at g) known) r (omega (arith, w .0)) (w .1))
+          (gpio-record-at-same s t r (r + recordFrom Gpio)
+          (record-alike Gpio i p at (gpio-far i p at g) known (gpio-shape (shapeAt s p) g) n r d (omega (arith, w .1))) r (omega arith) (omega arith))
       shown g known Nothing d = refl
 
       go : (b : Bool) → isGpio (shapeAt s p) && knows k (shapeAt s p) ≡ b

@@ -11,13 +11,13 @@ use lib.ListN.{length, getD}
 use Rattle.board.specs.Answers.{numbered, itemIf, itemNumbered, mapRecord, mapRecordIf, mapRecordNumbered, isGpio, gpioRecordsAt, gpioRecord, gpioRecordIf, gpioRecordNumbered}
 use Rattle.board.specs.Items.{itemAs, itemAt}
 use Rattle.board.specs.Records.{mapRecordAt, gpioRecordAt}
-use Rattle.board.specs.Values.{ItemValues, itemValues, itemSaid, mapRecordSaid, gpioRecordSaid}
+use Rattle.board.specs.Shown.{structureShown, recordShown}
+use Rattle.board.specs.Values.{notKnown, itemFields, ItemValues, itemValues, itemSaid, mapRecordSaid, gpioRecordSaid}
 use Rattle.board.specs.declared.Item.{Item}
+use Rattle.board.specs.laws.Rows.{shown-unknown, structure-rows, map-record-rows, gpio-record-rows}
 use Rattle.board_layout.specs.Layout.{shapeAt, structures, mapAt, records}
 use Rattle.board_layout.specs.Shapes.{knows}
 use Rattle.board_layout.specs.declared.Records.the-variants.{Map, Gpio}
-use Rattle.board_layout.specs.declared.Shape.{Shape}
-use Rattle.board_layout.specs.declared.Shape.the-variants.{Eeprom, EeprMap, BrdInfo, PromSig, AcpiTbl, FpgaNfo, GpioDat, HdCodec, Logo, MemCnfg, MacInfo, UCode, Video, Other}
 use Rattle.board_rules.specs.Judged.{judged}
 use Rattle.board_rules.specs.laws.Accepted.{accepted-count}
 use Rattle.chain.specs.Nth.{nth}
@@ -29,27 +29,6 @@ use Rattle.octets.specs.Bytes.{Octets, run}
 use Rattle.octets.specs.laws.Spelled.{spelled-le64}
 use Rattle.verdict.specs.Said.{says, refused}
 use Rattle.verdict.specs.declared.Judged.the-variants.{Accepted}
-
--- ---- a known structure has fields
-abbrev pub Filled : Item → Type 0
-Filled (Item.Known x) = Unit {0}
-Filled Item.NotKnown = ⊥
-
-pub known-filled : (k : Kinds) (s : List ℕ) (p : ℕ) (a : Shape) → knows k a ≡ true → Filled (itemAs s p a)
-known-filled k s p Eeprom e = tt
-known-filled k s p EeprMap e = tt
-known-filled k s p BrdInfo e = tt
-known-filled k s p PromSig e = tt
-known-filled k s p AcpiTbl e = tt
-known-filled k s p FpgaNfo e = tt
-known-filled k s p GpioDat e = tt
-known-filled k s p HdCodec e = tt
-known-filled k s p Logo e = tt
-known-filled k s p MemCnfg e = tt
-known-filled k s p MacInfo e = tt
-known-filled k s p UCode e = tt
-known-filled k s p Video e = tt
-known-filled k s p Other e = absurd (false≢true e)
 
 module _ (k : Kinds) (s : List ℕ) (c : ℕ) (e : judged k s ≡ Accepted c) where
   -- ---- item by number
@@ -84,13 +63,13 @@ module _ (k : Kinds) (s : List ℕ) (c : ℕ) (e : judged k s ≡ Accepted c) wh
   item-kind h n = item-view (λ v. v .kind ≡ run s (v .place) 8) n (λ p d. spelled-le64 s p h)
 
   -- an item is not known exactly where the list does not know the structure at its place
-  pub unknown-exactly : (n : ℕ) (v : ItemValues) → itemSaid (itemNumbered k s n) ≡ says v → (v .item ≡ Item.NotKnown) ↔ (knows k (shapeAt s (v .place)) ≡ false)
+  pub unknown-exactly : (n : ℕ) (v : ItemValues) → itemSaid (itemNumbered k s n) ≡ says v → (v .shown ≡ notKnown) ↔ (knows k (shapeAt s (v .place)) ≡ false)
   unfolding itemAt
   unknown-exactly n =
-      item-view (λ v. (v .item ≡ Item.NotKnown) ↔ (knows k (shapeAt s (v .place)) ≡ false)) n (λ p d. go p (knows k (shapeAt s p)) refl)
+      item-view (λ v. (v .shown ≡ notKnown) ↔ (knows k (shapeAt s (v .place)) ≡ false)) n (λ p d. go p (knows k (shapeAt s p)) refl)
     where
-      go : (p : ℕ) (b : Bool) → knows k (shapeAt s p) ≡ b → (cond b (itemAs s p (shapeAt s p)) Item.NotKnown ≡ Item.NotKnown) ↔ (b ≡ false)
-      go p true on = (λ h. absurd (subst Filled h (known-filled k s p (shapeAt s p) on)), λ h. absurd (false≢true (sym h)))
+      go : (p : ℕ) (b : Bool) → knows k (shapeAt s p) ≡ b → (itemFields (cond b (itemAs s p (shapeAt s p)) Item.NotKnown) ≡ notKnown) ↔ (b ≡ false)
+      go p true on = (λ h. absurd (shown-unknown (structureShown s p (shapeAt s p)) (sym (structure-rows k s p (shapeAt s p) on) ∙ h)), λ h. absurd (false≢true (sym h)))
       go p false off = (λ h. refl, λ h. refl)
 
   -- ---- record of the map by number
@@ -101,8 +80,9 @@ module _ (k : Kinds) (s : List ℕ) (c : ℕ) (e : judged k s ≡ Accepted c) wh
   -- a number below the count of its records shows that record, and any other gets 42
   pub map-record-answered :
       (n : ℕ) → n < length (records Map s (mapAt s))
-      → mapRecordSaid (mapRecordNumbered k s n) ≡ says (mapRecordAt s (getD (records Map s (mapAt s)) n 0))
-  map-record-answered n h = ap mapRecordSaid (map-accepted n ∙ ap (mapRecord s) (nth-below (records Map s (mapAt s)) n h))
+      → mapRecordSaid (mapRecordNumbered k s n) ≡ says (recordShown Map s (getD (records Map s (mapAt s)) n 0))
+  map-record-answered n h =
+      ap mapRecordSaid (map-accepted n ∙ ap (mapRecord s) (nth-below (records Map s (mapAt s)) n h)) ∙ ap says (map-record-rows s _)
 
   pub map-record-beyond : (n : ℕ) → length (records Map s (mapAt s)) ≤ n → mapRecordSaid (mapRecordNumbered k s n) ≡ refused 42 0
   map-record-beyond n h = ap mapRecordSaid (map-accepted n ∙ ap (mapRecord s) (nth-past (records Map s (mapAt s)) n h))
@@ -135,8 +115,9 @@ module _ (k : Kinds) (s : List ℕ) (c : ℕ) (e : judged k s ≡ Accepted c) wh
     -- known GPIO data has its own, and no other
     module _ (on : isGpio (shapeAt s p) && knows k (shapeAt s p) ≡ true) where
       pub gpio-record-answered :
-          (n : ℕ) → n < length (records Gpio s p) → gpioRecordSaid (gpioRecordNumbered k s i n) ≡ says (gpioRecordAt s (getD (records Gpio s p) n 0))
-      gpio-record-answered n h = ap gpioRecordSaid (gpio-by true on n ∙ ap (gpioRecord s) (nth-below (records Gpio s p) n h))
+          (n : ℕ) → n < length (records Gpio s p) → gpioRecordSaid (gpioRecordNumbered k s i n) ≡ says (recordShown Gpio s (getD (records Gpio s p) n 0))
+      gpio-record-answered n h =
+          ap gpioRecordSaid (gpio-by true on n ∙ ap (gpioRecord s) (nth-below (records Gpio s p) n h)) ∙ ap says (gpio-record-rows s _)
 
       pub gpio-record-beyond : (n : ℕ) → length (records Gpio s p) ≤ n → gpioRecordSaid (gpioRecordNumbered k s i n) ≡ refused 42 0
       gpio-record-beyond n h = ap gpioRecordSaid (gpio-by true on n ∙ ap (gpioRecord s) (nth-past (records Gpio s p) n h))

@@ -10,11 +10,13 @@ use Rattle.board.specs.Records.{mapRecordAt, gpioRecordAt}
 use Rattle.board.specs.declared.Fields.{Fields}
 use Rattle.board.specs.declared.Item.{Item}
 use Rattle.board_layout.specs.Layout.{shapeAt}
-use Rattle.board_layout.specs.Places.{headSize, StructLen, Crc32, CrcLength, Version, ManuName, BrdName, BrdSerial, BoardId, FabId, EcId, BoardType, PartLabel, BlkLength, PageSize, PartSize, BusNumber, Master, Speed, MapData, FpgaDataType, DevNum, FuncNum, GpioData, SpdSlot, NicId, MacAddr, NicNum, HashType, EepromSig, MapLabel, MapLength, MapOffset, Address, mapRecordSize, GpioLabel, GpioLength, GpioOffset, AndData, OrData, DataSize, GpioDataType, gpioRecordSize}
+use Rattle.board_layout.specs.Places.{headSize, StructLen, Crc32, CrcLength, Version, ManuName, BrdName, BrdSerial, BoardId, FabId, EcId, BoardType, PartLabel, BlkLength, PageSize, PartSize, BusNumber, Master, Speed, MapData, FpgaDataType, DevNum, FuncNum, GpioData, SpdSlot, NicId, MacAddr, NicNum, HashType, EepromSig, MapLabel, MapLength, MapOffset, Address, GpioLabel, GpioLength, GpioOffset, AndData, OrData, DataSize, GpioDataType}
 use Rattle.board_layout.specs.Shapes.{knows, reservedFrom}
 use Rattle.board_layout.specs.declared.Shape.{Shape}
 use Rattle.board_layout.specs.declared.Shape.the-variants.{Eeprom, EeprMap, BrdInfo, PromSig, AcpiTbl, FpgaNfo, GpioDat, HdCodec, Logo, MemCnfg, MacInfo, UCode, Video, Other}
 use Rattle.board_layout.specs.laws.Same.{signature-same, major-same, minor-same, length-same, shape-same}
+use Rattle.board_layout.specs.declared.Records.the-variants.{Map, Gpio}
+use Rattle.board_records.specs.Records.{recordFrom}
 use Rattle.kinds.specs.declared.Kinds.{Kinds}
 use Rattle.octets.specs.laws.Same.{Same, same-part, le16-same, le32-same, six-same, eight-same, sixteen-same}
 
@@ -131,9 +133,9 @@ module _ (s t : List ℕ) (p : ℕ) (head : Same s t p (p + headSize)) where
       go true e = fields e
       go false e = refl
 
--- ---- the record at r, in a part that agrees
+-- ---- the record at r, whose fields lie in a part that agrees
 module _ (s t : List ℕ) (a b : ℕ) (same : Same s t a b) (r : ℕ) (start : a ≤ r) where
-  pub map-record-at-same : r + mapRecordSize ≤ b → mapRecordAt s r ≡ mapRecordAt t r
+  pub map-record-at-same : r + recordFrom Map ≤ b → mapRecordAt s r ≡ mapRecordAt t r
   unfolding mapRecordAt
   map-record-at-same h i =
       record {
@@ -143,7 +145,7 @@ module _ (s t : List ℕ) (a b : ℕ) (same : Same s t a b) (r : ℕ) (start : a
         address = record { 0 = same (r + Address) (omega arith) (omega arith) i };
       }
 
-  pub gpio-record-at-same : r + gpioRecordSize ≤ b → gpioRecordAt s r ≡ gpioRecordAt t r
+  pub gpio-record-at-same : r + recordFrom Gpio ≤ b → gpioRecordAt s r ≡ gpioRecordAt t r
   unfolding gpioRecordAt
   gpio-record-at-same h i =
       record {

@@ -32,7 +32,7 @@ use Rattle.verdict.specs.declared.Judged.the-variants.{Accepted}
 
 -- ---- the tables: where the fields end
 -- what holds of both answers of a test, of the first where the test holds
-either : (P : Shape → Type 0) (b : Bool) {x y : Shape} → (b ≡ true → P x) → P y → P (cond b x y)
+pub either : (P : Shape → Type 0) (b : Bool) {x y : Shape} → (b ≡ true → P x) → P y → P (cond b x y)
 either P true h k = h refl
 either P false h k = k
 
@@ -67,7 +67,7 @@ not-early true b c e = absurd (false≢true (sym e))
 
 -- ---- rule 33 at a structure
 -- it is not broken: the fixed part is there, and the fields are good
-inside-kept : (s : List ℕ) (p : ℕ) (a : Shape) → badInside s p a ≡ Nothing → (fixedPart a ≤ lengthAt s p) × (badFields s p a ≡ Nothing)
+pub inside-kept : (s : List ℕ) (p : ℕ) (a : Shape) → badInside s p a ≡ Nothing → (fixedPart a ≤ lengthAt s p) × (badFields s p a ≡ Nothing)
 unfolding badInside
 inside-kept s p a e = go (ltb (lengthAt s p) (fixedPart a)) refl e
   where
