@@ -6,5 +6,6 @@ pub mod Range
 pub mod Same
 pub mod Front
 pub mod Smallest
+pub mod BrokenHead
 pub mod Bounds
 pub mod Findings
