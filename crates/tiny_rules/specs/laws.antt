@@ -7,5 +7,6 @@ pub mod Same
 pub mod Front
 pub mod Smallest
 pub mod BrokenHead
+pub mod BrokenItems
 pub mod Bounds
 pub mod Findings

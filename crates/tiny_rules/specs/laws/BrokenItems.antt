@@ -1,0 +1,183 @@
+-- Rules 6 to 9 find the smallest place at which their row of the paper's table is broken. Rules 6 to 8 look at an item's tag, and so does the search for the
+-- pool; where rule 8 is not broken there is one pool at most, so rule 9 looks at the bytes of all of them. Assumes nothing.
+use Prim.Native.Nat.{ℕ, _+_, _≤_, _<_}
+use mathlib.Core.Bool.{Bool, true, false, not, _&&_, _||_, and-eq-true-iff}
+use mathlib.Core.List.{List}
+use mathlib.Core.Logic.{_⊎_, inl, inr}
+use mathlib.Core.Path.{_≡_, refl, sym, ap, subst, _∙_}
+use native.Mathlib.Omega.{arith}
+use lib.Dec.{eqb, ltb}
+use borrow.Author.Tests.{ltb-true, lt-ltb, eqb-true, eq-eqb, lt-leb, leb-false, not-true}
+use Rattle.chain.specs.Chain.{range}
+use Rattle.chain.specs.Finds.{Among, Finds}
+use Rattle.chain.specs.First.{first, when}
+use Rattle.chain.specs.Onward.{onward, along}
+use Rattle.chain.specs.declared.Found.{Found}
+use Rattle.chain.specs.declared.Found.the-variants.{At, Nothing}
+use Rattle.chain.specs.laws.Apart.{Apart, chain-apart}
+use Rattle.chain.specs.laws.Below.{below}
+use Rattle.chain.specs.laws.Finds.{finds-as, found-none, finds-when, finds-range, finds-along}
+use Rattle.chain.specs.laws.First.{when-place}
+use Rattle.chain.specs.laws.Onward.{onward-more, along-step, nth-along}
+use Rattle.kinds.specs.Kinds.{listed}
+use Rattle.kinds.specs.declared.Kind.the-variants.{Tag}
+use Rattle.kinds.specs.declared.Kinds.{Kinds}
+use Rattle.octets.specs.Bytes.{byte}
+use Rattle.octets.specs.Label.{isText}
+use Rattle.tiny_layout.specs.Layout.{checkPlace, dataAt, next, items}
+use Rattle.tiny_layout.specs.Pool.{isOf, poolPlace, poolAt, pool}
+use Rattle.tiny_layout.specs.Strings.{isMarked, letter}
+use Rattle.tiny_layout.specs.laws.Layout.{next-grows, item-within}
+use Rattle.tiny_rules.specs.Broken.{PoolAt, Broken6, itemPasses, lengthBytePasses, Broken7, longTagZero, Broken8, poolNotLast, Broken9, noCharacterThere, lastUnmarked}
+use Rattle.tiny_rules.specs.Rules.{rule6, rule7, rule8, noCharacter, endUnmarked, unfit, rule9}
+use Rattle.tiny_rules.specs.laws.BrokenHead.{or-holds}
+
+-- ---- the searches that the rules are made of
+-- along the items: the smallest place of what each item's answer is the smallest place of
+pub finds-items :
+    (s : List ℕ) (B : ℕ → ℕ → Type 0) → ((p z : ℕ) → B p z → (p ≤ z) × (z ≤ next s p)) → (rule : ℕ → Found)
+    → ((p : ℕ) → Finds (B p) (rule p)) → Finds (λ z. (p : ℕ) × (Among (items s) p × B p z)) (first rule (items s))
+finds-items s B own rule each =
+    finds-along rule (next s) (checkPlace s) (next-grows s) B own 3 (λ p a. each p)
+
+-- a test of each item, whose place is the item's tag
+finds-tags :
+    (s : List ℕ) (B : ℕ → Type 0) (test : ℕ → Bool) → ((z : ℕ) → Among (items s) z → test z ≡ true → B z)
+    → ((z : ℕ) → B z → Among (items s) z × (test z ≡ true)) → Finds B (first (λ p. when (test p) p) (items s))
+finds-tags s B test to back =
+    finds-as (λ z. (p : ℕ) × (Among (items s) p × ((z ≡ p) × (test p ≡ true)))) B (λ z h. subst B (sym (h .1 .1 .0)) (to (h .0) (h .1 .0) (h .1 .1 .1)))
+    (λ z b. let h = back z b in (z, (h .0, (refl, h .1)))) (first (λ p. when (test p) p) (items s))
+    (finds-items s (λ p z. (z ≡ p) × (test p ≡ true)) (λ p z h. (omega (arith, h .0), omega (arith, h .0, next-grows s p))) (λ p. when (test p) p)
+    (λ p. finds-when (λ z. (z ≡ p) × (test p ≡ true)) (test p) p (λ e. (refl, e)) (λ z h. h)))
+
+-- a test of each byte from a up to b
+pub finds-bytes :
+    (B : ℕ → Type 0) (test : ℕ → Bool) (a b : ℕ) → ((z : ℕ) → a ≤ z → z < b → test z ≡ true → B z)
+    → ((z : ℕ) → B z → (a ≤ z) × (z < b) × (test z ≡ true)) → Finds B (first (λ q. when (test q) q) (range a b))
+finds-bytes B test a b to back =
+    finds-as (λ z. (i : ℕ) × ((a ≤ i) × (i < b) × (z ≡ i) × (test i ≡ true))) B
+    (λ z h. subst B (sym (h .1 .2)) (to (h .0) (h .1 .0) (h .1 .1) (h .1 .3)))
+    (λ z x. let h = back z x in (z, (h .0, h .1, refl, h .2))) (first (λ q. when (test q) q) (range a b))
+    (finds-range test (λ q. q) (λ i j h. h) a b)
+
+-- ---- items behind one another
+-- where an item ends before the check byte, the next one starts
+item-next : (s : List ℕ) (p : ℕ) → Among (items s) p → next s p < checkPlace s → Among (items s) (next s p)
+item-next s p a h =
+    let end : ℕ = checkPlace s in
+    let at : ℕ = along (next s) end 3 (a .0) in
+    let here : at ≡ p = when-place (ltb at end) at p (sym (nth-along (next s) end (next-grows s) (a .0) 3) ∙ a .1) in
+    let on : along (next s) end 3 (a .0 + 1) ≡ next s p =
+    sym (along-step (next s) end (a .0) 3) ∙ ap (onward (next s) end) here ∙ onward-more (next s) end p (item-within s (a .0) p (a .1) .1) ∙ omega arith in
+    (a .0 + 1, nth-along (next s) end (next-grows s) (a .0 + 1) 3 ∙ rw (on, lt-ltb (next s p) end h))
+
+-- an item behind another one starts where that ends, or later
+item-behind : (s : List ℕ) (p q : ℕ) → Among (items s) p → Among (items s) q → p < q → next s p ≤ q
+item-behind s p q a b h = go (chain-apart (next s) (checkPlace s) (next-grows s) 3 (a .0) (b .0) p q (a .1) (b .1))
+  where
+    go : Apart (next s) (checkPlace s) (next-grows s) p q → next s p ≤ q
+    go (inl e) = absurd (omega arith)
+    go (inr (inl e)) = e
+    go (inr (inr e)) = absurd (omega (arith, next-grows s q))
+
+-- ---- the rules
+module _ (k : Kinds) (s : List ℕ) where
+  -- 6: an item, or its length byte, passes L - 1
+  pub finds6 : Finds (Broken6 k s) (rule6 s)
+  unfolding rule6
+  finds6 =
+      finds-tags s (Broken6 k s) (λ p. ltb (checkPlace s) (dataAt s p) || ltb (checkPlace s) (next s p))
+      (λ z a t.
+      elim (or-holds (ltb (checkPlace s) (dataAt s z)) (ltb (checkPlace s) (next s z)) .0 t) [
+        | inl e ↦ lengthBytePasses a (ltb-true (checkPlace s) (dataAt s z) e)
+        | inr e ↦ itemPasses a (ltb-true (checkPlace s) (next s z) e)
+      ])
+      (λ z b.
+      elim b [
+        | itemPasses a h ↦ (a, or-holds (ltb (checkPlace s) (dataAt s z)) (ltb (checkPlace s) (next s z)) .1 (inr (lt-ltb (checkPlace s) (next s z) h)))
+        | lengthBytePasses a h ↦ (a, or-holds (ltb (checkPlace s) (dataAt s z)) (ltb (checkPlace s) (next s z)) .1 (inl (lt-ltb (checkPlace s) (dataAt s z) h)))
+      ])
+
+  -- 7: long tag 00
+  pub finds7 : Finds (Broken7 k s) (rule7 s)
+  unfolding rule7
+  finds7 =
+      finds-tags s (Broken7 k s) (λ p. eqb (byte s p) 0x00) (λ z a t. longTagZero a (eqb-true (byte s z) 0x00 t))
+      (λ z b. elim b [ longTagZero a e ↦ (a, eq-eqb (byte s z) 0x00 e) ])
+
+  -- a listed pool, and the test for it
+  pool-of : (p : ℕ) → Among (items s) p → isOf k s 0x01 p ≡ true → PoolAt k s p
+  pool-of p a e =
+      let t = and-eq-true-iff (listed k (Tag 0x01)) (eqb (byte s p) 0x01) .0 e in
+      let tag : byte s p ≡ 0x01 = eqb-true (byte s p) 0x01 (t .1) in
+      ((a, rw tag (t .0)), tag)
+
+  of-pool : (p : ℕ) → PoolAt k s p → isOf k s 0x01 p ≡ true
+  of-pool p h =
+      and-eq-true-iff (listed k (Tag 0x01)) (eqb (byte s p) 0x01) .1 (rw (h .1) at (h .0 .1), eq-eqb (byte s p) 0x01 (h .1))
+
+  -- the search for the pool finds the first one
+  finds-pool : Finds (PoolAt k s) (poolPlace k s)
+  finds-pool = finds-tags s (PoolAt k s) (isOf k s 0x01) pool-of (λ z h. (h .0 .0, of-pool z h))
+
+  -- 8: listed pool is not the last item
+  pub finds8 : Finds (Broken8 k s) (rule8 k s)
+  unfolding rule8
+  finds8 =
+      finds-tags s (Broken8 k s) (λ p. isOf k s 0x01 p && ltb (next s p) (checkPlace s))
+      (λ z a e.
+      let t = and-eq-true-iff (isOf k s 0x01 z) (ltb (next s z) (checkPlace s)) .0 e in
+      poolNotLast (pool-of z a (t .0)) (next s z) (item-next s z a (ltb-true (next s z) (checkPlace s) (t .1))) (next-grows s z))
+      (λ z b.
+      elim b [
+        | poolNotLast l p a h ↦ (
+          l .0 .0,
+          and-eq-true-iff (isOf k s 0x01 z) (ltb (next s z) (checkPlace s)) .1 (
+            of-pool z l,
+            lt-ltb (next s z) (checkPlace s) (omega (arith, item-behind s z p (l .0 .0) a h, item-within s (a .0) p (a .1))),
+          ),
+        )
+      ])
+
+  -- where it is not broken, no listed pool lies before another
+  pool-alone : rule8 k s ≡ Nothing → (p q : ℕ) → PoolAt k s p → PoolAt k s q → p ≤ q
+  pool-alone e p q a b =
+      elim (below q p) [ inl h ↦ absurd (found-none (Broken8 k s) (rule8 k s) finds8 e q (poolNotLast b p (a .0 .0) h)) | inr h ↦ h ]
+
+  -- 9: listed pool: a byte's low seven bits not 20h to 7Eh; last byte unmarked
+  pub finds9 : rule8 k s ≡ Nothing → Finds (Broken9 k s) (rule9 k s)
+  unfolding rule9 pool
+  finds9 e = go (poolPlace k s) finds-pool
+    where
+      go : (f : Found) → Finds (PoolAt k s) f → Finds (Broken9 k s) (first (unfit s (poolAt s f .to)) (range (poolAt s f .from) (poolAt s f .to)))
+      go (At p) h =
+          finds-bytes (Broken9 k s) (λ q. noCharacter s q || endUnmarked s (next s p) q) (dataAt s p) (next s p) to
+          (λ z b. elim b [ noCharacterThere q l i j c ↦ at-pool q z l i j (inl c) | lastUnmarked q l i j c ↦ at-pool q z l i (omega arith) (inr (j, c)) ])
+        where
+          to : (z : ℕ) → dataAt s p ≤ z → z < next s p → noCharacter s z || endUnmarked s (next s p) z ≡ true → Broken9 k s z
+          to z i j t =
+              elim (or-holds (noCharacter s z) (endUnmarked s (next s p) z) .0 t) [
+                | inl c ↦ noCharacterThere p (h .0) i j (not-true _ c)
+                | inr c ↦ let u = and-eq-true-iff (eqb (z + 1) (next s p)) (not (isMarked (byte s z))) .0 c in
+                    lastUnmarked p (h .0) i (eqb-true (z + 1) (next s p) (u .0)) (leb-false 128 (byte s z) (not-true _ (u .1)))
+              ]
+
+          -- a byte of a listed pool is a byte of the one at p
+          at-pool : (q z : ℕ) → PoolAt k s q → dataAt s q ≤ z → z < next s q → (isText (letter (byte s z)) ≡ false) ⊎ ((z + 1 ≡ next s q) × (byte s z < 128))
+              → (dataAt s p ≤ z) × (z < next s p) × (noCharacter s z || endUnmarked s (next s p) z ≡ true)
+          at-pool q z l i j c =
+              subst (λ (x : ℕ). (dataAt s x ≤ z) × (z < next s x) × (noCharacter s z || endUnmarked s (next s x) z ≡ true))
+              (omega (arith, pool-alone e q p l (h .0), h .1 q l)) (
+                i,
+                j,
+                or-holds (noCharacter s z) (endUnmarked s (next s q) z) .1
+                    (elim c [
+                      | inl d ↦ inl (ap not d)
+                      | inr d ↦ inr
+                          (and-eq-true-iff (eqb (z + 1) (next s q)) (not (isMarked (byte s z))) .1
+                          (eq-eqb (z + 1) (next s q) (d .0), ap not (lt-leb 128 (byte s z) (d .1))))
+                    ]),
+              )
+      go Nothing h =
+          finds-bytes (Broken9 k s) (λ q. noCharacter s q || endUnmarked s 0 q) 0 0 (λ z i j t. absurd (omega arith))
+          (λ z b. absurd (elim b [ noCharacterThere q l i j c ↦ h q l | lastUnmarked q l i j c ↦ h q l ]))
