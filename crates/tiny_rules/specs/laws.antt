@@ -8,5 +8,7 @@ pub mod Front
 pub mod Smallest
 pub mod BrokenHead
 pub mod BrokenItems
+pub mod BrokenData
+pub mod Table
 pub mod Bounds
 pub mod Findings
