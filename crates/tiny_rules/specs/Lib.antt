@@ -5,4 +5,5 @@ pub mod Broken
 pub mod Tests
 pub mod Findings
 pub mod Examples
+pub mod BrokenExamples
 pub mod laws
