@@ -3,8 +3,8 @@
 use Prim.Native.Nat.{ℕ, _+_, _≤_, _<_}
 use mathlib.Core.Bool.{Bool, true, false, not, _&&_}
 use mathlib.Core.List.{List}
-use mathlib.Core.Logic.{_⊎_, inl, inr}
-use mathlib.Core.Path.{_≡_, refl, sym, ap, subst}
+use mathlib.Core.Logic.{_⊎_, inl, inr, _↔_}
+use mathlib.Core.Path.{_≡_, refl, ap, subst}
 use native.Mathlib.Omega.{arith}
 use lib.Dec.{leb}
 use lib.ListN.{length}
@@ -26,15 +26,19 @@ use Rattle.tiny_layout.specs.declared.Shape.{Shape}
 use Rattle.tiny_layout.specs.declared.Shape.the-variants.{Identity, Batched}
 use Rattle.tiny_layout.specs.laws.Layout.{data-after}
 use Rattle.tiny_layout.specs.laws.Tags.{fields-within, indexes-within}
-use Rattle.tiny_rules.specs.Broken.{IdentityAt, Broken10, indexNotBelow, Broken11, majorOutOfRange, minorOutOfRange, charactersOutOfRange, batchOutOfRange}
+use Rattle.tiny_rules.specs.Broken.{KnownAt, IdentityAt, Broken10, indexNotBelow, Broken11, majorOutOfRange, minorOutOfRange, charactersOutOfRange, batchOutOfRange}
 use Rattle.tiny_rules.specs.Rules.{onKnown, badIndex, rule10, isMajor, isMinor, isBatch, badRevision, badBatch, badField, rule11}
 use Rattle.tiny_rules.specs.laws.BrokenItems.{finds-items, finds-bytes}
+
+-- a known item has the property at z, by the row of its tag and where its data begin
+abbrev InKnown : Kinds → List ℕ → (Shape → ℕ → ℕ → Type 0) → ℕ → Type 0
+InKnown k s B z = (p : ℕ) × (Among (items s) p × ((isKnown k s p ≡ true) × B (shapeOf (byte s p)) (dataAt s p) z))
 
 -- a rule on the data of the known items: where it finds the smallest place in the fields of each, it finds the smallest place of all
 finds-known :
     (k : Kinds) (s : List ℕ) (B : Shape → ℕ → ℕ → Type 0) → ((a : Shape) (start z : ℕ) → B a start z → (start ≤ z) × (z < start + fieldBytes a)) → (rule : Shape → ℕ → Found)
     → ((a : Shape) (start : ℕ) → Finds (B a start) (rule a start))
-    → Finds (λ z. (p : ℕ) × (Among (items s) p × ((isKnown k s p ≡ true) × B (shapeOf (byte s p)) (dataAt s p) z))) (first (onKnown k s rule) (items s))
+    → Finds (InKnown k s B) (first (onKnown k s rule) (items s))
 finds-known k s B inside rule each =
     finds-items s (λ p z. (isKnown k s p ≡ true) × B (shapeOf (byte s p)) (dataAt s p) z)
     (λ p z h.
@@ -53,13 +57,14 @@ finds-known k s B inside rule each =
 abbrev Beyond : List ℕ → ℕ → Shape → ℕ → ℕ → Type 0
 Beyond s count a start z = (start ≤ z) × (z < start + indexCount a) × (count ≤ byte s z)
 
+-- the item's indexes, byte by byte
 finds-index : (s : List ℕ) (count : ℕ) (a : Shape) (start : ℕ) → Finds (Beyond s count a start) (badIndex s count a start)
 unfolding badIndex
 finds-index s count a start =
     finds-bytes (Beyond s count a start) (λ q. leb count (byte s q)) start (start + indexCount a) (λ z i j t. (i, j, leb-true count (byte s z) t))
     (λ z h. (h .0, h .1, le-leb count (byte s z) (h .2)))
 
--- pool listed, known item's index not below the string count
+-- 10: pool listed, known item's index not below the string count
 pub finds10 : (k : Kinds) (s : List ℕ) → Finds (Broken10 k s) (rule10 k s)
 unfolding rule10
 finds10 k s =
@@ -67,23 +72,38 @@ finds10 k s =
     let rule : ℕ → Found = onKnown k s (badIndex s count) in
     finds-under (Broken10 k s) (listed k (Tag 0x01)) (first rule (items s))
     (λ e.
-    finds-as (λ z. (p : ℕ) × (Among (items s) p × ((isKnown k s p ≡ true) × Beyond s count (shapeOf (byte s p)) (dataAt s p) z))) (Broken10 k s)
+    finds-as (InKnown k s (Beyond s count)) (Broken10 k s)
     (λ z h. indexNotBelow e (h .0) (h .1 .0, h .1 .1 .0) (h .1 .1 .1 .0) (h .1 .1 .1 .1) (h .1 .1 .1 .2))
     (λ z b. elim b [ indexNotBelow m p l i j c ↦ (p, (l .0, (l .1, (i, j, c)))) ]) (first rule (items s))
     (finds-known k s (Beyond s count) (λ a start z h. (h .0, omega (arith, h .1, indexes-within a))) (badIndex s count) (finds-index s count)))
     (λ z b. elim b [ indexNotBelow m p l i j c ↦ m ])
 
 -- ---- rule 11
+-- a test of the field at a place
+finds-at : (C : ℕ → Type 0) (test : ℕ → Bool) (q : ℕ) → (test q ≡ true → C q) → ((z : ℕ) → C z → test z ≡ true) → Finds (λ z. (z ≡ q) × C z) (when (test q) q)
+finds-at C test q to back =
+    finds-when (λ z. (z ≡ q) × C z) (test q) q (λ e. (refl, to e))
+    (λ z h. (h .0, subst (λ (x : ℕ). test x ≡ true) (h .0) (back z (h .1))))
+
+-- two tests do not both hold exactly where one of them fails
+and-fails : (a b : Bool) → (not (a && b) ≡ true) ↔ ((a ≡ false) ⊎ (b ≡ false))
+and-fails true b = (λ e. inr (not-true b e), λ h. elim h [ inl e ↦ cc | inr e ↦ ap not e ])
+and-fails false b = (λ e. inl refl, λ h. refl)
+
 module _ (s : List ℕ) where
-  -- major, minor or characters out of range, in data that begin at a place
+  -- major, minor, characters or batch out of range, in data that begin at a place
+  abbrev Major : ℕ → ℕ → Type 0
+  Major start z = (z ≡ start + 2) × (isMajor (byte s z) ≡ false)
+
+  abbrev Minor : ℕ → ℕ → Type 0
+  Minor start z = (z ≡ start + 3) × (99 < byte s z)
+
   abbrev Characters : ℕ → ℕ → Type 0
   Characters start z = (z ≡ start + 4) × ((isText (byte s z) ≡ false) ⊎ (isText (byte s (z + 1)) ≡ false))
 
   abbrev Revision : ℕ → ℕ → Type 0
-  Revision start z =
-      ((z ≡ start + 2) × (isMajor (byte s z) ≡ false)) ⊎ (((z ≡ start + 3) × (99 < byte s z)) ⊎ Characters start z)
+  Revision start z = Major start z ⊎ (Minor start z ⊎ Characters start z)
 
-  -- batch out of range
   abbrev Batch : ℕ → ℕ → Type 0
   Batch start z = (z ≡ start + 6) × (9999 < le16 s z)
 
@@ -113,59 +133,30 @@ module _ (s : List ℕ) where
   field-inside Shape.Batched start z (inr h) = (omega (arith, h .0), omega (arith, h .0))
   field-inside Shape.Other start z h = absurd h
 
-  -- two characters are both text, or one of them is not
-  not-both : (a b : Bool) → not (a && b) ≡ true → (a ≡ false) ⊎ (b ≡ false)
-  not-both true b e = inr (not-true b e)
-  not-both false b e = inl refl
-
-  both-not : (a b : Bool) → (a ≡ false) ⊎ (b ≡ false) → not (a && b) ≡ true
-  both-not true b (inl e) = cc
-  both-not true b (inr e) = ap not e
-  both-not false b e = refl
-
+  -- the three fields of a revision, in ascending order
   finds-revision : (start : ℕ) → Finds (Revision start) (badRevision s start)
   unfolding badRevision
   finds-revision start =
-      finds-both Major (λ z. Minor z ⊎ Characters start z) (when (not (isMajor (byte s (start + 2)))) (start + 2))
-      (orElse (when (not (isMinor (byte s (start + 3)))) (start + 3)) (when (not (isText (byte s (start + 4)) && isText (byte s (start + 5)))) (start + 4)))
-      major
-      (finds-both Minor (Characters start) (when (not (isMinor (byte s (start + 3)))) (start + 3))
-      (when (not (isText (byte s (start + 4)) && isText (byte s (start + 5)))) (start + 4)) minor characters (λ y z b c. omega (arith, b .0, c .0)))
+      let minor : Found = when (not (isMinor (byte s (start + 3)))) (start + 3) in
+      let characters : Found = when (not (isText (byte s (start + 4)) && isText (byte s (start + 5)))) (start + 4) in
+      let second : start + 4 + 1 ≡ start + 5 = omega arith in
+      finds-both (Major start) (λ z. Minor start z ⊎ Characters start z) (when (not (isMajor (byte s (start + 2)))) (start + 2)) (orElse minor characters)
+      (finds-at (λ z. isMajor (byte s z) ≡ false) (λ z. not (isMajor (byte s z))) (start + 2) (not-true _) (λ z h. ap not h))
+      (finds-both (Minor start) (Characters start) minor characters
+      (finds-at (λ z. 99 < byte s z) (λ z. not (isMinor (byte s z))) (start + 3) (λ e. leb-false _ 99 (not-true _ e)) (λ z h. ap not (lt-leb _ 99 h)))
+      (rw second at
+      (finds-at (λ z. (isText (byte s z) ≡ false) ⊎ (isText (byte s (z + 1)) ≡ false)) (λ z. not (isText (byte s z) && isText (byte s (z + 1)))) (start + 4)
+      (and-fails _ _ .0) (λ z. and-fails _ _ .1)))
+      (λ y z b c. omega (arith, b .0, c .0)))
       (λ y z b c. elim c [ inl d ↦ omega (arith, b .0, d .0) | inr d ↦ omega (arith, b .0, d .0) ])
-    where
-      Major : ℕ → Type 0
-      Major z = (z ≡ start + 2) × (isMajor (byte s z) ≡ false)
 
-      Minor : ℕ → Type 0
-      Minor z = (z ≡ start + 3) × (99 < byte s z)
-
-      major : Finds Major (when (not (isMajor (byte s (start + 2)))) (start + 2))
-      major =
-          finds-when Major (not (isMajor (byte s (start + 2)))) (start + 2) (λ e. (refl, not-true _ e))
-          (λ z h. (h .0, subst (λ (q : ℕ). not (isMajor (byte s q)) ≡ true) (h .0) (ap not (h .1))))
-
-      minor : Finds Minor (when (not (isMinor (byte s (start + 3)))) (start + 3))
-      minor =
-          finds-when Minor (not (isMinor (byte s (start + 3)))) (start + 3) (λ e. (refl, leb-false (byte s (start + 3)) 99 (not-true _ e)))
-          (λ z h. (h .0, subst (λ (q : ℕ). not (isMinor (byte s q)) ≡ true) (h .0) (ap not (lt-leb (byte s z) 99 (h .1)))))
-
-      characters : Finds (Characters start) (when (not (isText (byte s (start + 4)) && isText (byte s (start + 5)))) (start + 4))
-      characters =
-          let second : start + 4 + 1 ≡ start + 5 = omega arith in
-          finds-when (Characters start) (not (isText (byte s (start + 4)) && isText (byte s (start + 5)))) (start + 4)
-          (λ e. (refl, rw second (not-both (isText (byte s (start + 4))) (isText (byte s (start + 5))) e)))
-          (λ z h. (
-            h .0,
-            both-not (isText (byte s (start + 4))) (isText (byte s (start + 5)))
-                (rw second at (subst (λ (q : ℕ). (isText (byte s q) ≡ false) ⊎ (isText (byte s (q + 1)) ≡ false)) (h .0) (h .1))),
-          ))
-
+  -- the batch
   finds-batch : (start : ℕ) → Finds (Batch start) (badBatch s start)
   unfolding badBatch
   finds-batch start =
-      finds-when (Batch start) (not (isBatch (le16 s (start + 6)))) (start + 6) (λ e. (refl, leb-false (le16 s (start + 6)) 9999 (not-true _ e)))
-      (λ z h. (h .0, subst (λ (q : ℕ). not (isBatch (le16 s q)) ≡ true) (h .0) (ap not (lt-leb (le16 s z) 9999 (h .1)))))
+      finds-at (λ z. 9999 < le16 s z) (λ z. not (isBatch (le16 s z))) (start + 6) (λ e. leb-false _ 9999 (not-true _ e)) (λ z h. ap not (lt-leb _ 9999 h))
 
+  -- the fields, by the row of the tag: the batch lies behind the revision
   finds-field : (a : Shape) (start : ℕ) → Finds (BadField a start) (badField s a start)
   finds-field Shape.Pool start = λ q h. h
   finds-field Shape.Serial start = λ q h. h
@@ -177,18 +168,18 @@ module _ (s : List ℕ) where
       (λ y z b c. omega (arith, revision-inside start y b .1, c .0))
   finds-field Shape.Other start = λ q h. h
 
--- known item: major, minor, characters or batch out of range
+-- 11: known item: major, minor, characters or batch out of range
 pub finds11 : (k : Kinds) (s : List ℕ) → Finds (Broken11 k s) (rule11 k s)
 unfolding rule11
 finds11 k s =
-    finds-as (λ z. (p : ℕ) × (Among (items s) p × ((isKnown k s p ≡ true) × BadField s (shapeOf (byte s p)) (dataAt s p) z))) (Broken11 k s)
+    finds-as (InKnown k s (BadField s)) (Broken11 k s)
     (λ z h. to (h .0) z (h .1 .0) (h .1 .1 .0) (shapeOf (byte s (h .0))) refl (h .1 .1 .1))
     (λ z b.
     elim b [
       | majorOutOfRange p i e c ↦ revised p z i (inl (e, c))
       | minorOutOfRange p i e c ↦ revised p z i (inr (inl (e, c)))
       | charactersOutOfRange p i e c ↦ revised p z i (inr (inr (e, c)))
-      | batchOutOfRange p i e c ↦ (p, (i .0 .0, (i .0 .1, subst (λ (a : Shape). BadField s a (dataAt s p) z) (sym (i .1)) (inr (e, c)))))
+      | batchOutOfRange p i e c ↦ from p z Batched i (inr (e, c))
     ])
     (first (onKnown k s (badField s)) (items s)) (finds-known k s (BadField s) (field-inside s) (badField s) (finds-field s))
   where
@@ -209,7 +200,9 @@ finds11 k s =
     to p z i m Shape.Other e h = absurd h
 
     -- and back
-    revised : (p z : ℕ) → IdentityAt k s p → Revision s (dataAt s p) z
-        → (q : ℕ) × (Among (items s) q × ((isKnown k s q ≡ true) × BadField s (shapeOf (byte s q)) (dataAt s q) z))
-    revised p z (inl i) h = (p, (i .0 .0, (i .0 .1, subst (λ (a : Shape). BadField s a (dataAt s p) z) (sym (i .1)) h)))
-    revised p z (inr i) h = (p, (i .0 .0, (i .0 .1, subst (λ (a : Shape). BadField s a (dataAt s p) z) (sym (i .1)) (inl h))))
+    from : (p z : ℕ) (a : Shape) → KnownAt k s p × (shapeOf (byte s p) ≡ a) → BadField s a (dataAt s p) z → InKnown k s (BadField s) z
+    from p z a i h = (p, (i .0 .0, (i .0 .1, rw (i .1) h)))
+
+    revised : (p z : ℕ) → IdentityAt k s p → Revision s (dataAt s p) z → InKnown k s (BadField s) z
+    revised p z (inl i) h = from p z Identity i h
+    revised p z (inr i) h = from p z Batched i (inl h)

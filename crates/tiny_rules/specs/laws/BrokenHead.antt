@@ -54,9 +54,10 @@ module _ (k : Kinds) (s : List ℕ) where
         | inr h ↦ totalAboveLent refl (ltb-true (length s) (total s) h)
       ])
       (λ z b.
+      let t = or-holds (ltb (total s) 4) (ltb (length s) (total s)) .1 in
       elim b [
-        | totalBelowFour at h ↦ (at, or-holds (ltb (total s) 4) (ltb (length s) (total s)) .1 (inl (lt-ltb (total s) 4 h)))
-        | totalAboveLent at h ↦ (at, or-holds (ltb (total s) 4) (ltb (length s) (total s)) .1 (inr (lt-ltb (length s) (total s) h)))
+        | totalBelowFour at h ↦ (at, t (inl (lt-ltb (total s) 4 h)))
+        | totalAboveLent at h ↦ (at, t (inr (lt-ltb (length s) (total s) h)))
       ])
 
   -- 5: CRC-8

@@ -87,15 +87,16 @@ module _ (k : Kinds) (s : List ℕ) where
   unfolding rule6
   finds6 =
       finds-tags s (Broken6 k s) (λ p. ltb (checkPlace s) (dataAt s p) || ltb (checkPlace s) (next s p))
-      (λ z a t.
-      elim (or-holds (ltb (checkPlace s) (dataAt s z)) (ltb (checkPlace s) (next s z)) .0 t) [
-        | inl e ↦ lengthBytePasses a (ltb-true (checkPlace s) (dataAt s z) e)
-        | inr e ↦ itemPasses a (ltb-true (checkPlace s) (next s z) e)
+      (λ z a e.
+      elim (or-holds (ltb (checkPlace s) (dataAt s z)) (ltb (checkPlace s) (next s z)) .0 e) [
+        | inl h ↦ lengthBytePasses a (ltb-true (checkPlace s) (dataAt s z) h)
+        | inr h ↦ itemPasses a (ltb-true (checkPlace s) (next s z) h)
       ])
       (λ z b.
+      let t = or-holds (ltb (checkPlace s) (dataAt s z)) (ltb (checkPlace s) (next s z)) .1 in
       elim b [
-        | itemPasses a h ↦ (a, or-holds (ltb (checkPlace s) (dataAt s z)) (ltb (checkPlace s) (next s z)) .1 (inr (lt-ltb (checkPlace s) (next s z) h)))
-        | lengthBytePasses a h ↦ (a, or-holds (ltb (checkPlace s) (dataAt s z)) (ltb (checkPlace s) (next s z)) .1 (inl (lt-ltb (checkPlace s) (dataAt s z) h)))
+        | itemPasses a h ↦ (a, t (inr (lt-ltb (checkPlace s) (next s z) h)))
+        | lengthBytePasses a h ↦ (a, t (inl (lt-ltb (checkPlace s) (dataAt s z) h)))
       ])
 
   -- 7: long tag 00
