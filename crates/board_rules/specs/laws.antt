@@ -17,3 +17,4 @@ pub mod Structure
 pub mod Fields
 pub mod Smallest
 pub mod Bounds
+pub mod BrokenPlaces
