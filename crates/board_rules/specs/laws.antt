@@ -18,3 +18,5 @@ pub mod Fields
 pub mod Smallest
 pub mod Bounds
 pub mod BrokenPlaces
+pub mod BrokenTests
+pub mod BrokenHead
