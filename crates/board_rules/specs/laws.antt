@@ -20,3 +20,4 @@ pub mod Bounds
 pub mod BrokenPlaces
 pub mod BrokenTests
 pub mod BrokenHead
+pub mod BrokenWalk

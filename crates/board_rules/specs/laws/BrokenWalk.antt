@@ -1,0 +1,132 @@
+-- Rules 23 and 24 find the smallest place where the paper's rows are broken: what is asked of each structure in turn is answered from its start up to the next
+-- one's. A structure that is due past StructLen has no room there. Assumes nothing.
+use Prim.Native.Nat.{ℕ, _+_, _-_, _≤_, _<_}
+use mathlib.Core.Bool.{Bool, true, false, cond}
+use mathlib.Core.List.{List, [], _∷_}
+use mathlib.Core.Logic.{inl, inr}
+use mathlib.Core.Path.{_≡_, refl, sym, ap, subst, _∙_}
+use native.Mathlib.Omega.{arith}
+use lib.Dec.{eqb}
+use borrow.Author.Tests.{eqb-true, eqb-false}
+use Rattle.board_layout.specs.Layout.{lengthAt, structLen, endAt, next}
+use Rattle.board_layout.specs.Places.{headSize}
+use Rattle.board_layout.specs.laws.Layout.{next-grows, end-next}
+use Rattle.board_rules.specs.Broken.{StructureAt, DueAt, Broken23, Broken24}
+use Rattle.board_rules.specs.Rules.{misplaced, rule23, gapUsed, rule24}
+use Rattle.board_rules.specs.laws.BrokenPlaces.{among-goes}
+use Rattle.board_rules.specs.laws.BrokenTests.{means-under, means-most, means-other, means-both, Told, told, SaysAt, finds-told}
+use Rattle.chain.specs.Finds.{Finds}
+use Rattle.chain.specs.declared.Found.the-variants.{Nothing}
+use Rattle.chain.specs.laws.Below.{below}
+use Rattle.chain.specs.laws.Finds.{Along, finds-as, finds-range, finds-along}
+use Rattle.kinds.specs.declared.Kinds.{Kinds}
+use Rattle.octets.specs.Bytes.{byte}
+use Rattle.octets.specs.Label.{dollar}
+use Rattle.octets.specs.Runs.{isSet, nonzero}
+
+-- a search for a byte that is not zero
+pub finds-nonzero : (s : List ℕ) (p from end : ℕ) → Finds (λ z. (p + from ≤ z) × (z < p + end) × (byte s z ≡ 0 → ⊥)) (nonzero s p from end)
+unfolding nonzero
+finds-nonzero s p from end =
+    finds-as (λ z. (i : ℕ) × ((from ≤ i) × (i < end) × (z ≡ p + i) × (isSet s p i ≡ true))) (λ z. (p + from ≤ z) × (z < p + end) × (byte s z ≡ 0 → ⊥))
+    (λ z h. (
+      omega (arith, h .1),
+      omega (arith, h .1),
+      λ e. means-other (byte s (p + h .0)) 0 .0 (h .1 .3) (sym (ap (byte s) (h .1 .2)) ∙ e),
+    ))
+    (λ z h.
+    let i : z ≡ p + (z - p) = omega (arith, h .0) in
+    (z - p, (omega (arith, h .0), omega (arith, h .1, h .0), i, means-other (byte s (p + (z - p))) 0 .1 (λ e. h .2 (ap (byte s) i ∙ e)))))
+    (nonzero s p from end) (finds-range (isSet s p) (λ i. p + i) (λ i j h. omega arith) from end)
+
+module _ (k : Kinds) (s : List ℕ) where
+  -- ---- rule 23
+  abbrev walkTests : ℕ → List Told
+  walkTests p =
+      told p (means-under (structLen s) (p + headSize))
+      ∷ told p (means-other (byte s p) dollar)
+      ∷ told p (means-under (lengthAt s p) headSize)
+      ∷ told p (means-under (structLen s) (endAt s p))
+      ∷ told (next s p) (means-both (means-other (endAt s p) (structLen s)) (means-most (structLen s) (next s p)))
+      ∷ []
+
+  -- they are of the structure's start and of the next one's
+  walk-own : (p z : ℕ) → SaysAt (walkTests p) z → (p ≤ z) × (z ≤ next s p)
+  walk-own p z (inl h) = (omega (arith, h .0), omega (arith, h .0, next-grows s p))
+  walk-own p z (inr (inl h)) = (omega (arith, h .0), omega (arith, h .0, next-grows s p))
+  walk-own p z (inr (inr (inl h))) = (omega (arith, h .0), omega (arith, h .0, next-grows s p))
+  walk-own p z (inr (inr (inr (inl h)))) = (omega (arith, h .0), omega (arith, h .0, next-grows s p))
+  walk-own p z (inr (inr (inr (inr (inl h))))) = (omega (arith, h .0, next-grows s p), omega (arith, h .0))
+  walk-own p z (inr (inr (inr (inr (inr h))))) = absurd h
+
+  -- some structure is misplaced at z
+  abbrev Misplaced : ℕ → Type 0
+  Misplaced z = Along (misplaced s) (next s) (structLen s) (next-grows s) (λ p. SaysAt (walkTests p)) walk-own 0 z
+
+  -- where it is misplaced a structure is due
+  misplaced-due : (p z : ℕ) → StructureAt k s p → SaysAt (walkTests p) z → Broken23 k s z
+  misplaced-due p z a (inl h) = subst (Broken23 k s) (sym (h .0)) (Broken23.noRoom (inl a) (h .1))
+  misplaced-due p z a (inr (inl h)) = subst (Broken23 k s) (sym (h .0)) (Broken23.noDollar (inl a) (h .1))
+  misplaced-due p z a (inr (inr (inl h))) = subst (Broken23 k s) (sym (h .0)) (Broken23.lengthUnder (inl a) (h .1))
+  misplaced-due p z a (inr (inr (inr (inl h)))) = subst (Broken23 k s) (sym (h .0)) (Broken23.endPast (inl a) (h .1))
+  misplaced-due p z a (inr (inr (inr (inr (inl h))))) = Broken23.noRoom (inr (p, (a, h .1 .0, h .0))) (omega (arith, h .0, h .1 .1))
+  misplaced-due p z a (inr (inr (inr (inr (inr h))))) = absurd h
+
+  -- and one that is due is there, or past StructLen
+  due-misplaced : (q : ℕ) → DueAt k s q → SaysAt (walkTests q) q → Misplaced q
+  due-misplaced q (inl a) h = (q, (a, h))
+  due-misplaced q (inr d) h =
+      elim (below q (structLen s)) [
+        | inl l ↦ (q, (subst (StructureAt k s) (sym (d .1 .2)) (among-goes s (d .0) (d .1 .0) (omega (arith, d .1 .2, l))), h))
+        | inr l ↦ (d .0, (d .1 .0, inr (inr (inr (inr (inl (d .1 .2, (d .1 .1, omega (arith, d .1 .2, l)))))))))
+      ]
+
+  pub finds23 : Finds (Broken23 k s) (rule23 s)
+  unfolding rule23 misplaced
+  finds23 =
+      finds-as Misplaced (Broken23 k s) (λ z x. misplaced-due (x .0) z (x .1 .0) (x .1 .1)) back (rule23 s)
+      (finds-along (misplaced s) (next s) (structLen s) (next-grows s) (λ p. SaysAt (walkTests p)) walk-own 0
+      (λ p a. finds-told (walkTests p) (omega arith, (omega arith, (omega arith, (omega (arith, next-grows s p), tt))))))
+    where
+      back : (q : ℕ) → Broken23 k s q → Misplaced q
+      back q (Broken23.noRoom d h) = due-misplaced q d (inl (refl, h))
+      back q (Broken23.noDollar d h) = due-misplaced q d (inr (inl (refl, h)))
+      back q (Broken23.lengthUnder d h) = due-misplaced q d (inr (inr (inl (refl, h))))
+      back q (Broken23.endPast d h) = due-misplaced q d (inr (inr (inr (inl (refl, h)))))
+
+  -- ---- rule 24: between the end of the structure at p and the next one
+  abbrev GapAt : ℕ → ℕ → Type 0
+  GapAt p z = (endAt s p ≡ structLen s → ⊥) × (endAt s p ≤ z) × (z < next s p) × (byte s z ≡ 0 → ⊥)
+
+  gap-own : (p z : ℕ) → GapAt p z → (p ≤ z) × (z ≤ next s p)
+  unfolding endAt
+  gap-own p z h = (omega (arith, h .1), omega (arith, h .2))
+
+  -- one structure
+  finds-gap : (p : ℕ) → Finds (GapAt p) (gapUsed s p)
+  unfolding gapUsed
+  finds-gap p = go (eqb (endAt s p) (structLen s)) refl
+    where
+      go : (b : Bool) → eqb (endAt s p) (structLen s) ≡ b → Finds (GapAt p) (cond b Nothing (nonzero s (endAt s p) 0 (next s p - endAt s p)))
+      go true d = λ z h. h .0 (eqb-true (endAt s p) (structLen s) d)
+      go false d =
+          finds-as (λ z. (endAt s p + 0 ≤ z) × (z < endAt s p + (next s p - endAt s p)) × (byte s z ≡ 0 → ⊥)) (GapAt p)
+          (λ z h. (eqb-false (endAt s p) (structLen s) d, omega (arith, h .0), omega (arith, h .1, end-next s p), h .2))
+          (λ z h. (omega (arith, h .1), omega (arith, h .2, end-next s p), h .3)) (nonzero s (endAt s p) 0 (next s p - endAt s p))
+          (finds-nonzero s (endAt s p) 0 (next s p - endAt s p))
+
+  -- some structure has such a byte at z
+  abbrev GapUsed : ℕ → Type 0
+  GapUsed z = Along (gapUsed s) (next s) (structLen s) (next-grows s) GapAt gap-own 0 z
+
+  pub finds24 : Finds (Broken24 k s) (rule24 s)
+  unfolding rule24
+  finds24 =
+      finds-as GapUsed (Broken24 k s) to back (rule24 s)
+      (finds-along (gapUsed s) (next s) (structLen s) (next-grows s) GapAt gap-own 0 (λ p a. finds-gap p))
+    where
+      to : (z : ℕ) → GapUsed z → Broken24 k s z
+      to z x = let h = x .1 .1 in Broken24.gapNonzero (x .0) (x .1 .0) (h .0) (h .1) (h .2) (h .3)
+
+      back : (z : ℕ) → Broken24 k s z → GapUsed z
+      back z (Broken24.gapNonzero p a more from up set) = (p, (a, (more, from, up, set)))
