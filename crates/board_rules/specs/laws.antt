@@ -21,3 +21,4 @@ pub mod BrokenPlaces
 pub mod BrokenTests
 pub mod BrokenHead
 pub mod BrokenWalk
+pub mod BrokenOrder

@@ -67,7 +67,7 @@ module _ (s : List ℕ) where
   nth-later i = ap (nth (structures s)) (omega arith) ∙ nth-next 0 (suc (suc i)) ∙ nth-next (mapAt s) (suc i) ∙ nth-next (boardAt s) i
 
   -- ---- one after another
-  nth-starts : (from p : ℕ) → nth (onwards from) 0 ≡ At p → from ≡ p
+  pub nth-starts : (from p : ℕ) → nth (onwards from) 0 ≡ At p → from ≡ p
   nth-starts from p e = when-place (ltb from (structLen s)) from p (sym (nth-start from) ∙ e)
 
   nth-after : (from n p : ℕ) → nth (onwards from) (suc n) ≡ At p → next s from ≤ p
