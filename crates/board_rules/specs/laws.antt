@@ -22,3 +22,4 @@ pub mod BrokenTests
 pub mod BrokenHead
 pub mod BrokenWalk
 pub mod BrokenOrder
+pub mod BrokenHeads

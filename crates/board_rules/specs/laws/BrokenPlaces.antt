@@ -11,7 +11,7 @@ use borrow.Author.Tests.{ltb-true, lt-ltb, le-ltb, eqb-true, eq-eqb}
 use Rattle.board_layout.specs.Layout.{signatureAt, structLen, next, structures, mapAt, boardAt, laterAt}
 use Rattle.board_layout.specs.laws.Layout.{next-grows, end-next, structure-below}
 use Rattle.board_rules.specs.Broken.{StructureAt, Second, Third, PromSigAt}
-use Rattle.board_rules.specs.Rules.{rule21, rule25, isPromSig, promSigAt}
+use Rattle.board_rules.specs.Rules.{rule21, rule25, isPromSig, promSigAt, onFound}
 use Rattle.board_rules.specs.laws.Heads.{Last, prom-sig-last}
 use Rattle.board_rules.specs.laws.Order.{map-second, board-third}
 use Rattle.chain.specs.Chain.{chain}
@@ -171,3 +171,16 @@ module _ (k : Kinds) (s : List ℕ) where
       back : (f : Found) → Finds (PromSigAt k s) f → f ≡ At p → PromSigAt k s p
       back (At q) h d = let i : q ≡ p = cc in subst (PromSigAt k s) i (h .0)
       back Nothing h d = absurd (at-nothing (sym d))
+
+  -- so a rule on the one that is found is a rule on a `$PromSig`
+  pub finds-on-prom-sig : rule21 s ≡ Nothing → rule25 s ≡ Nothing → (rule : ℕ → Found) (B : ℕ → ℕ → Type 0) → ((p : ℕ) → PromSigAt k s p → Finds (B p) (rule p))
+      → Finds (λ z. (p : ℕ) × (PromSigAt k s p × B p z)) (onFound rule (promSigAt s))
+  finds-on-prom-sig head e rule B each = go (promSigAt s) refl
+    where
+      go : (f : Found) → promSigAt s ≡ f → Finds (λ z. (p : ℕ) × (PromSigAt k s p × B p z)) (onFound rule f)
+      go (At q) d =
+          let a : PromSigAt k s q = prom-sig-is head e q .1 d in
+          finds-as (B q) (λ z. (p : ℕ) × (PromSigAt k s p × B p z)) (λ z b. (q, (a, b)))
+          (λ z x. let i : x .0 ≡ q = (let c : promSigAt s ≡ At (x .0) = prom-sig-is head e (x .0) .0 (x .1 .0) in cc) in subst (λ (p : ℕ). B p z) i (x .1 .1)) (rule q)
+          (each q a)
+      go Nothing d = λ z x. at-nothing (sym (prom-sig-is head e (x .0) .0 (x .1 .0)) ∙ d)

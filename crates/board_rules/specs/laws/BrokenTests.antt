@@ -11,7 +11,7 @@ use borrow.Author.Tests.{eqb-true, eq-eqb, ltb-true, lt-ltb, leb-true, le-leb}
 use Rattle.chain.specs.Finds.{Finds}
 use Rattle.chain.specs.First.{checks, when}
 use Rattle.chain.specs.declared.Found.{Found}
-use Rattle.chain.specs.laws.Finds.{finds-when, finds-both}
+use Rattle.chain.specs.laws.Finds.{finds-as, finds-when, finds-both}
 
 -- ---- what a test means
 abbrev pub Means : Bool → Type 0 → Type 0
@@ -101,3 +101,20 @@ finds-told [] a = λ z h. h
 finds-told (t ∷ []) a = finds-first t [] (λ z h. absurd h) (finds-told [] tt)
 finds-told (t ∷ (u ∷ us)) a =
     finds-first t (u ∷ us) (λ z h. omega (arith, a .0, says-after u us z (a .1) h)) (finds-told (u ∷ us) (a .1))
+
+-- two tests of one place
+pub finds-pair : (p : ℕ) {a b : Bool} {P Q : Type 0} → Means a P → Means b Q
+    → Finds (λ z. (z ≡ p) × (P ⊎ Q)) (checks (when a p ∷ when b p ∷ []))
+finds-pair p {a} {b} {P} {Q} m n =
+    finds-as (SaysAt l) (λ z. (z ≡ p) × (P ⊎ Q)) to back (asks l) (finds-told l (omega arith, tt))
+  where
+    l : List Told
+    l = told p m ∷ told p n ∷ []
+
+    to : (z : ℕ) → SaysAt l z → (z ≡ p) × (P ⊎ Q)
+    to z (inl h) = (h .0, inl (h .1))
+    to z (inr (inl h)) = (h .0, inr (h .1))
+    to z (inr (inr h)) = absurd h
+
+    back : (z : ℕ) → (z ≡ p) × (P ⊎ Q) → SaysAt l z
+    back z h = elim (h .1) [ inl x ↦ inl (h .0, x) | inr x ↦ inr (inl (h .0, x)) ]
