@@ -23,3 +23,4 @@ pub mod BrokenHead
 pub mod BrokenWalk
 pub mod BrokenOrder
 pub mod BrokenHeads
+pub mod Table
