@@ -17,10 +17,16 @@ pub mod Structure
 pub mod Fields
 pub mod Smallest
 pub mod Bounds
+pub mod Clauses
 pub mod BrokenPlaces
 pub mod BrokenTests
 pub mod BrokenHead
 pub mod BrokenWalk
 pub mod BrokenOrder
 pub mod BrokenHeads
+pub mod BrokenRecords
+pub mod BrokenTables
+pub mod BrokenReserved
+pub mod BrokenInside
+pub mod BrokenKnown
 pub mod Table
