@@ -29,4 +29,5 @@ pub mod BrokenTables
 pub mod BrokenReserved
 pub mod BrokenInside
 pub mod BrokenKnown
+pub mod BrokenFields
 pub mod Table

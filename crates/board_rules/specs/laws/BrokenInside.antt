@@ -1,13 +1,13 @@
 -- Rule 33 at one structure: what is found is the smallest place where its table is not kept. The start comes first, and then the field or the records.
 -- Assumes nothing.
 use Prim.Native.Nat.{ℕ, _+_, _-_, _*_, _/_, _%_, _≤_, _<_}
-use mathlib.Core.Bool.{Bool, true, false, not, cond, _||_}
+use mathlib.Core.Bool.{Bool, true, false, not, cond}
 use mathlib.Core.List.{List, [], _∷_}
 use mathlib.Core.Logic.{_⊎_, inl, inr}
 use mathlib.Core.Path.{_≡_, refl}
 use native.Mathlib.Omega.{arith}
 use lib.Dec.{eqb, ltb}
-use borrow.Author.Tests.{eqb-true, eqb-false, ne-eqb, ltb-true, ltb-false, not-true}
+use borrow.Author.Tests.{eqb-true, eqb-false, ltb-true, ltb-false}
 use Rattle.board_fields.specs.Inside.{badGpio, badFpga, badFields, badInside}
 use Rattle.board_layout.specs.Layout.{lengthAt, endAt, records}
 use Rattle.board_layout.specs.Places.{FpgaDataType, GpioData, GpioLabel, GpioLength, DataSize, GpioDataType, gpioRecordSize}
@@ -19,24 +19,27 @@ use Rattle.board_layout.specs.laws.Records.{records-fit}
 use Rattle.board_records.specs.Records.{dataSizeFits, badGpioRecord}
 use Rattle.board_rules.specs.laws.BrokenRecords.{record-after, InRecord, finds-records}
 use Rattle.board_rules.specs.laws.BrokenTables.{TableOf, no, table-of, map, fpga, gpio, others}
+use Rattle.board_rules.specs.laws.BrokenTests.{Means, means-equal, means-not, means-either}
 use Rattle.board_rules.specs.laws.Clauses.{Clause, test, over, other, labelled, several}
 use Rattle.chain.specs.Finds.{Among, Finds, Nowhere}
 use Rattle.chain.specs.First.{first, orElse, when}
 use Rattle.chain.specs.declared.Found.the-variants.{At}
-use Rattle.chain.specs.laws.Checks.{neither}
 use Rattle.chain.specs.laws.Finds.{finds-as}
 use Rattle.chain.specs.laws.Nth.{nth-all}
 use Rattle.octets.specs.Bytes.{byte, le32}
 
--- what the test of DataSize says
-pub other-size : (n : ℕ) → not (dataSizeFits n) ≡ true → (n ≡ 1 → ⊥) × (n ≡ 2 → ⊥) × (n ≡ 4 → ⊥)
-other-size n e =
-    let a = neither (eqb n 1 || eqb n 2) (eqb n 4) (not-true (dataSizeFits n) e) in
-    let b = neither (eqb n 1) (eqb n 2) (a .0) in
-    (eqb-false n 1 (b .0), eqb-false n 2 (b .1), eqb-false n 4 (a .1))
+-- a DataSize that is not 1, 2 or 4
+abbrev pub OtherSize : ℕ → Type 0
+OtherSize n = (n ≡ 1 → ⊥) × (n ≡ 2 → ⊥) × (n ≡ 4 → ⊥)
 
-pub size-other : (n : ℕ) → (n ≡ 1 → ⊥) × (n ≡ 2 → ⊥) × (n ≡ 4 → ⊥) → not (dataSizeFits n) ≡ true
-size-other n h = rw (ne-eqb n 1 (h .0), ne-eqb n 2 (h .1), ne-eqb n 4 (h .2))
+pub means-other-size : (n : ℕ) → Means (not (dataSizeFits n)) (OtherSize n)
+means-other-size n = (
+  λ e. (λ h. m .0 e (inl (inl h)), λ h. m .0 e (inl (inr h)), λ h. m .0 e (inr h)),
+  λ h. m .1 (λ x. elim x [ inl y ↦ elim y [ inl d ↦ h .0 d | inr d ↦ h .1 d ] | inr d ↦ h .2 d ]),
+)
+  where
+    m : Means (not (dataSizeFits n)) (((n ≡ 1) ⊎ (n ≡ 2)) ⊎ (n ≡ 4) → ⊥)
+    m = means-not (means-either (means-either (means-equal n 1) (means-equal n 2)) (means-equal n 4))
 
 module _ (s : List ℕ) where
   -- the clauses of a GPIO record, in ascending order of place
@@ -45,8 +48,7 @@ module _ (s : List ℕ) where
       several
       (labelled s (r + GpioLabel)
       ∷ other (le32 s) gpioRecordSize (r + GpioLength)
-      ∷ test (λ z. (byte s z ≡ 1 → ⊥) × (byte s z ≡ 2 → ⊥) × (byte s z ≡ 4 → ⊥)) (not (dataSizeFits (byte s (r + DataSize)))) (r + DataSize)
-      (other-size (byte s (r + DataSize))) (size-other (byte s (r + DataSize)))
+      ∷ test (λ z. OtherSize (byte s z)) (r + DataSize) (means-other-size (byte s (r + DataSize)))
       ∷ over (byte s) 4 (r + GpioDataType)
       ∷ [])
       r (r + GpioDataType) (omega arith, (omega arith, (omega arith, (omega arith, omega arith))))

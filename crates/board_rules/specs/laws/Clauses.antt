@@ -1,13 +1,12 @@
 -- A clause of a rule: what is looked for, where the clause is broken, and between which places that is. Clauses in ascending order of place that are looked for
 -- one after the other find the smallest place where any of them is broken. Assumes nothing.
 use Prim.Native.Nat.{ℕ, _+_, _≤_, _<_}
-use mathlib.Core.Bool.{Bool, true, not}
+use mathlib.Core.Bool.{Bool}
 use mathlib.Core.List.{List, [], _∷_}
 use mathlib.Core.Logic.{_⊎_, inl, inr}
-use mathlib.Core.Path.{_≡_, refl, ap, subst}
+use mathlib.Core.Path.{_≡_, refl, subst}
 use native.Mathlib.Omega.{arith}
-use lib.Dec.{eqb, ltb}
-use borrow.Author.Tests.{ltb-true, lt-ltb, eqb-false, ne-eqb, not-true}
+use Rattle.board_rules.specs.laws.BrokenTests.{Means, means-under, means-other}
 use Rattle.chain.specs.Finds.{Finds}
 use Rattle.chain.specs.First.{orElse, when}
 use Rattle.chain.specs.declared.Found.{Found}
@@ -28,12 +27,12 @@ pub record Clause : Type 1 where
   pub within : (z : ℕ) → broken z → (from ≤ z) × (z ≤ upto)
 
 -- ---- one test of one place
-abbrev pub test : (P : ℕ → Type 0) (b : Bool) (q : ℕ) → (b ≡ true → P q) → (P q → b ≡ true) → Clause
-test P b q to back =
+abbrev pub test : (P : ℕ → Type 0) {b : Bool} (q : ℕ) → Means b (P q) → Clause
+test P {b} q m =
     record {
       found = when b q;
       broken = λ z. (z ≡ q) × P z;
-      finds = finds-when (λ z. (z ≡ q) × P z) b q (λ e. (refl, to e)) (λ z h. (h .0, back (subst P (h .0) (h .1))));
+      finds = finds-when (λ z. (z ≡ q) × P z) b q (λ e. (refl, m .0 e)) (λ z h. (h .0, m .1 (subst P (h .0) (h .1))));
       from = q;
       upto = q;
       rises = omega arith;
@@ -41,17 +40,16 @@ test P b q to back =
     }
 
 -- what f reads there is over a bound
-abbrev pub over : (f : ℕ → ℕ) (bound q : ℕ) → Clause
-over f bound q = test (λ z. bound < f z) (ltb bound (f q)) q (ltb-true bound (f q)) (lt-ltb bound (f q))
+abbrev pub over : (ℕ → ℕ) → ℕ → ℕ → Clause
+over f bound q = test (λ z. bound < f z) q (means-under bound (f q))
 
 -- or under one
-abbrev pub under : (f : ℕ → ℕ) (bound q : ℕ) → Clause
-under f bound q = test (λ z. f z < bound) (ltb (f q) bound) q (ltb-true (f q) bound) (lt-ltb (f q) bound)
+abbrev pub under : (ℕ → ℕ) → ℕ → ℕ → Clause
+under f bound q = test (λ z. f z < bound) q (means-under (f q) bound)
 
 -- or not a number
-abbrev pub other : (f : ℕ → ℕ) (n q : ℕ) → Clause
-other f n q =
-    test (λ z. f z ≡ n → ⊥) (not (eqb (f q) n)) q (λ e. eqb-false (f q) n (not-true (eqb (f q) n) e)) (λ h. ap not (ne-eqb (f q) n h))
+abbrev pub other : (ℕ → ℕ) → ℕ → ℕ → Clause
+other f n q = test (λ z. f z ≡ n → ⊥) q (means-other (f q) n)
 
 -- ---- a label of sixteen bytes
 abbrev pub labelled : List ℕ → ℕ → Clause
