@@ -1,12 +1,11 @@
 -- Rule 32 at one structure: the byte found is the smallest reserved one that is not zero. The structure's own field lies before its records. Assumes nothing.
-use Prim.Native.Nat.{ℕ, _+_, _-_, _≤_, _<_}
-use mathlib.Core.Bool.{true, not}
+use Prim.Native.Nat.{ℕ, _+_, _≤_, _<_}
 use mathlib.Core.List.{List}
 use mathlib.Core.Logic.{_⊎_, inl, inr}
-use mathlib.Core.Path.{_≡_, refl, sym, ap, subst, _∙_}
+use mathlib.Core.Path.{_≡_, refl, subst}
 use native.Mathlib.Omega.{arith}
 use lib.Dec.{eqb, leb}
-use borrow.Author.Tests.{eqb-true, eq-eqb, eqb-false, ne-eqb, leb-true, le-leb, not-true}
+use borrow.Author.Tests.{eqb-true, eq-eqb, leb-true, le-leb}
 use Rattle.board_fields.specs.Reserved.{recordsUsed, reservedUsed}
 use Rattle.board_layout.specs.Layout.{minorAt, endAt, dataOffset, recordSize, records}
 use Rattle.board_layout.specs.Shapes.{reservedFrom, reservedTo, HasRecords}
@@ -17,12 +16,13 @@ use Rattle.board_layout.specs.declared.Shape.the-variants.{EeprMap, FpgaNfo, Gp
 use Rattle.board_records.specs.Records.{fieldUsed, recordFrom, recordTo, recordUsed}
 use Rattle.board_rules.specs.laws.BrokenRecords.{record-after, InRecord, finds-records}
 use Rattle.board_rules.specs.laws.BrokenTables.{TableOf, no, table-of, map, fpga, gpio, others}
+use Rattle.board_rules.specs.laws.BrokenWalk.{finds-nonzero}
 use Rattle.chain.specs.Finds.{Finds, Nowhere}
 use Rattle.chain.specs.First.{first, orElse}
 use Rattle.chain.specs.declared.Found.{Found}
-use Rattle.chain.specs.laws.Finds.{finds-as, finds-under, finds-both, finds-range}
+use Rattle.chain.specs.laws.Finds.{finds-as, finds-under, finds-both}
 use Rattle.octets.specs.Bytes.{byte}
-use Rattle.octets.specs.Runs.{isSet, nonzero}
+use Rattle.octets.specs.Runs.{nonzero}
 
 -- a table has records of one kind
 one-kind : (a : Shape) (w v : Records) → HasRecords w a → HasRecords v a → v ≡ w
@@ -47,24 +47,12 @@ module _ (s : List ℕ) where
   Used from to end p z = (p + to ≤ end) × (p + from ≤ z) × (z < p + to) × (byte s z ≡ 0 → ⊥)
 
   finds-used : (from to end p : ℕ) → Finds (Used from to end p) (fieldUsed s from to end p)
-  unfolding nonzero
   finds-used from to end p =
       finds-under (Used from to end p) (leb (p + to) end) (nonzero s p from to)
       (λ e.
-      finds-as SetAt (Used from to end p) (is-used (leb-true (p + to) end e)) is-set (nonzero s p from to)
-      (finds-range (isSet s p) (λ i. p + i) (λ i j h. omega arith) from to)) (λ z u. le-leb (p + to) end (u .0))
-    where
-      SetAt : ℕ → Type 0
-      SetAt z = (i : ℕ) × ((from ≤ i) × (i < to) × (z ≡ p + i) × (isSet s p i ≡ true))
-
-      is-used : p + to ≤ end → (z : ℕ) → SetAt z → Used from to end p z
-      is-used h z (i, (a, b, place, set)) =
-          (h, omega arith, omega arith, λ e. eqb-false (byte s (p + i)) 0 (not-true (eqb (byte s (p + i)) 0) set) (sym (ap (byte s) place) ∙ e))
-
-      is-set : (z : ℕ) → Used from to end p z → SetAt z
-      is-set z (h, a, b, set) =
-          let place : z ≡ p + (z - p) = omega arith in
-          (z - p, (omega arith, omega arith, place, ap not (ne-eqb (byte s (p + (z - p))) 0 (λ e. set (ap (byte s) place ∙ e)))))
+      finds-as (λ z. (p + from ≤ z) × (z < p + to) × (byte s z ≡ 0 → ⊥)) (Used from to end p) (λ z h. (leb-true (p + to) end e, h .0, h .1, h .2))
+      (λ z u. (u .1, u .2, u .3)) (nonzero s p from to) (finds-nonzero s p from to))
+      (λ z u. le-leb (p + to) end (u .0))
 
   -- a reserved byte of a record
   abbrev pub UsedRecord : ℕ → Records → ℕ → Type 0
