@@ -17,9 +17,9 @@ pub mod Structure
 pub mod Fields
 pub mod Smallest
 pub mod Bounds
-pub mod Clauses
 pub mod BrokenPlaces
 pub mod BrokenTests
+pub mod Clauses
 pub mod BrokenHead
 pub mod BrokenWalk
 pub mod BrokenOrder

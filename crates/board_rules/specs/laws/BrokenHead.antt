@@ -8,7 +8,7 @@ use Rattle.board_layout.specs.Layout.{signatureAt, majorAt, lengthAt, structLen
 use Rattle.board_layout.specs.Places.{StructLen, Crc32, CrcLength}
 use Rattle.board_rules.specs.Broken.{Broken20, Broken21, Broken22, Broken27}
 use Rattle.board_rules.specs.Rules.{headerLength, rule20, rule21, rule22, covered, checkOver, rule27}
-use Rattle.board_rules.specs.laws.BrokenTests.{means-under, means-other, Told, told, asks, SaysAt, finds-told}
+use Rattle.board_rules.specs.laws.Clauses.{Clause, over, under, other, foundIn, AnyOf, finds-any}
 use Rattle.chain.specs.Finds.{Finds}
 use Rattle.chain.specs.laws.Finds.{finds-as}
 use Rattle.kinds.specs.Signatures.{eeprom}
@@ -17,77 +17,77 @@ use Rattle.octets.specs.Bytes.{le32}
 
 module _ (k : Kinds) (s : List ℕ) where
   -- ---- rule 20
-  abbrev lentTests : List Told
-  lentTests = told 0 (means-under (length s) headerLength) ∷ told 0 (means-under 65536 (length s)) ∷ []
+  abbrev lentTests : List Clause
+  lentTests = under (λ z. length s) headerLength 0 ∷ over (λ z. length s) 65536 0 ∷ []
 
   pub finds20 : Finds (Broken20 k s) (rule20 s)
   unfolding rule20
-  finds20 = finds-as (SaysAt lentTests) (Broken20 k s) to back (asks lentTests) (finds-told lentTests (omega arith, tt))
+  finds20 = finds-as (AnyOf lentTests) (Broken20 k s) to back (foundIn lentTests) (finds-any lentTests 0 0 (omega arith))
     where
-      to : (z : ℕ) → SaysAt lentTests z → Broken20 k s z
+      to : (z : ℕ) → AnyOf lentTests z → Broken20 k s z
       to z (inl h) = Broken20.tooFewLent (h .0) (h .1)
       to z (inr (inl h)) = Broken20.tooManyLent (h .0) (h .1)
       to z (inr (inr h)) = absurd h
 
-      back : (z : ℕ) → Broken20 k s z → SaysAt lentTests z
+      back : (z : ℕ) → Broken20 k s z → AnyOf lentTests z
       back z (Broken20.tooFewLent e h) = inl (e, h)
       back z (Broken20.tooManyLent e h) = inr (inl (e, h))
 
   -- ---- rule 21
-  abbrev headerTests : List Told
+  abbrev headerTests : List Clause
   headerTests =
-      told 0 (means-other (signatureAt s 0) eeprom)
-      ∷ told 0 (means-other (majorAt s 0) 1)
-      ∷ told 0 (means-other (lengthAt s 0) headerLength)
+      other (λ z. signatureAt s 0) eeprom 0
+      ∷ other (λ z. majorAt s 0) 1 0
+      ∷ other (λ z. lengthAt s 0) headerLength 0
       ∷ []
 
   pub finds21 : Finds (Broken21 k s) (rule21 s)
   unfolding rule21
-  finds21 = finds-as (SaysAt headerTests) (Broken21 k s) to back (asks headerTests) (finds-told headerTests (omega arith, (omega arith, tt)))
+  finds21 = finds-as (AnyOf headerTests) (Broken21 k s) to back (foundIn headerTests) (finds-any headerTests 0 0 (omega arith))
     where
-      to : (z : ℕ) → SaysAt headerTests z → Broken21 k s z
+      to : (z : ℕ) → AnyOf headerTests z → Broken21 k s z
       to z (inl h) = Broken21.headerSignature (h .0) (h .1)
       to z (inr (inl h)) = Broken21.headerMajor (h .0) (h .1)
       to z (inr (inr (inl h))) = Broken21.headerLengthOther (h .0) (h .1)
       to z (inr (inr (inr h))) = absurd h
 
-      back : (z : ℕ) → Broken21 k s z → SaysAt headerTests z
+      back : (z : ℕ) → Broken21 k s z → AnyOf headerTests z
       back z (Broken21.headerSignature e h) = inl (e, h)
       back z (Broken21.headerMajor e h) = inr (inl (e, h))
       back z (Broken21.headerLengthOther e h) = inr (inr (inl (e, h)))
 
   -- ---- rule 22
-  abbrev structLenTests : List Told
+  abbrev structLenTests : List Clause
   structLenTests =
-      told StructLen (means-under (structLen s) headerLength) ∷ told StructLen (means-under (length s) (structLen s)) ∷ []
+      under (λ z. structLen s) headerLength StructLen ∷ over (λ z. structLen s) (length s) StructLen ∷ []
 
   pub finds22 : Finds (Broken22 k s) (rule22 s)
   unfolding rule22
-  finds22 = finds-as (SaysAt structLenTests) (Broken22 k s) to back (asks structLenTests) (finds-told structLenTests (omega arith, tt))
+  finds22 = finds-as (AnyOf structLenTests) (Broken22 k s) to back (foundIn structLenTests) (finds-any structLenTests StructLen StructLen (omega arith))
     where
-      to : (z : ℕ) → SaysAt structLenTests z → Broken22 k s z
+      to : (z : ℕ) → AnyOf structLenTests z → Broken22 k s z
       to z (inl h) = Broken22.structLenUnder (h .0) (h .1)
       to z (inr (inl h)) = Broken22.structLenAbove (h .0) (h .1)
       to z (inr (inr h)) = absurd h
 
-      back : (z : ℕ) → Broken22 k s z → SaysAt structLenTests z
+      back : (z : ℕ) → Broken22 k s z → AnyOf structLenTests z
       back z (Broken22.structLenUnder e h) = inl (e, h)
       back z (Broken22.structLenAbove e h) = inr (inl (e, h))
 
   -- ---- rule 27: Crc32 lies before CrcLength
-  abbrev checkTests : List Told
+  abbrev checkTests : List Clause
   checkTests =
-      told Crc32 (means-other (le32 s Crc32) (checkOver s (covered s))) ∷ told CrcLength (means-other (le32 s CrcLength) (covered s)) ∷ []
+      other (λ z. le32 s Crc32) (checkOver s (covered s)) Crc32 ∷ other (λ z. le32 s CrcLength) (covered s) CrcLength ∷ []
 
   pub finds27 : Finds (Broken27 k s) (rule27 s)
   unfolding rule27
-  finds27 = finds-as (SaysAt checkTests) (Broken27 k s) to back (asks checkTests) (finds-told checkTests (omega arith, tt))
+  finds27 = finds-as (AnyOf checkTests) (Broken27 k s) to back (foundIn checkTests) (finds-any checkTests Crc32 CrcLength (omega arith))
     where
-      to : (z : ℕ) → SaysAt checkTests z → Broken27 k s z
+      to : (z : ℕ) → AnyOf checkTests z → Broken27 k s z
       to z (inl h) = Broken27.wrongCrc (h .0) (h .1)
       to z (inr (inl h)) = Broken27.wrongCrcLength (h .0) (h .1)
       to z (inr (inr h)) = absurd h
 
-      back : (z : ℕ) → Broken27 k s z → SaysAt checkTests z
+      back : (z : ℕ) → Broken27 k s z → AnyOf checkTests z
       back z (Broken27.wrongCrc e h) = inl (e, h)
       back z (Broken27.wrongCrcLength e h) = inr (inl (e, h))

@@ -2,7 +2,7 @@
 -- board, and the one `$PromSig` lies after them; each head is bad at its structure's start. Assumes nothing.
 use Prim.Native.Nat.{ℕ, _+_, _-_, _*_, _/_, _%_, _≤_, _<_}
 use mathlib.Core.Bool.{true, not}
-use mathlib.Core.List.{List}
+use mathlib.Core.List.{List, [], _∷_}
 use mathlib.Core.Logic.{_⊎_, inl, inr}
 use mathlib.Core.Path.{_≡_, refl, sym, subst}
 use native.Mathlib.Omega.{arith}
@@ -11,10 +11,11 @@ use Rattle.board_fields.specs.Heads.{mapLengthFits, badMapHead, badBoardHead, b
 use Rattle.board_layout.specs.Layout.{majorAt, lengthAt, endAt, structures, mapAt, boardAt, laterAt}
 use Rattle.board_layout.specs.Places.{MapData, mapRecordSize, EepromSig}
 use Rattle.board_layout.specs.laws.Layout.{next-grows}
-use Rattle.board_rules.specs.Broken.{Second, Third, PromSigAt, Broken26, Broken28}
+use Rattle.board_rules.specs.Broken.{PromSigAt, Broken26, Broken28}
 use Rattle.board_rules.specs.Rules.{rule21, rule25, promSigAt, onFound, rule26, rule28}
 use Rattle.board_rules.specs.laws.BrokenPlaces.{second-is, third-is, finds-on-prom-sig}
-use Rattle.board_rules.specs.laws.BrokenTests.{Means, means-under, means-equal, means-most, means-other, means-not, means-both, finds-pair}
+use Rattle.board_rules.specs.laws.BrokenTests.{Means, means-under, means-equal, means-most, means-not, means-both}
+use Rattle.board_rules.specs.laws.Clauses.{Clause, test, under, other, several}
 use Rattle.board_rules.specs.laws.Heads.{Last, prom-sig-last}
 use Rattle.chain.specs.Finds.{Finds}
 use Rattle.chain.specs.First.{orElse}
@@ -37,85 +38,84 @@ means-not-whole l = (λ e n h d. m .0 e (omega arith, omega arith), λ h. m .1 (
 
 module _ (s : List ℕ) where
   -- ---- the head of one structure
-  abbrev MapBad : ℕ → ℕ → Type 0
-  MapBad p z = (z ≡ p) × ((majorAt s p ≡ 1 → ⊥) ⊎ NotWhole (lengthAt s p))
+  abbrev mapHead : ℕ → Clause
+  mapHead p =
+      several (other (majorAt s) 1 p ∷ test (λ z. NotWhole (lengthAt s z)) p (means-not-whole (lengthAt s p)) ∷ []) p p (omega arith)
 
-  finds-map-head : (p : ℕ) → Finds (MapBad p) (badMapHead s p)
+  finds-map-head : (p : ℕ) → Finds (mapHead p .broken) (badMapHead s p)
   unfolding badMapHead
-  finds-map-head p = finds-pair p (means-other (majorAt s p) 1) (means-not-whole (lengthAt s p))
+  finds-map-head p = mapHead p .finds
 
-  abbrev BoardBad : ℕ → ℕ → Type 0
-  BoardBad p z = (z ≡ p) × ((majorAt s p ≡ 1 → ⊥) ⊎ (lengthAt s p ≡ 0x60 → ⊥))
+  abbrev boardHead : ℕ → Clause
+  boardHead p = several (other (majorAt s) 1 p ∷ other (lengthAt s) 0x60 p ∷ []) p p (omega arith)
 
-  finds-board-head : (p : ℕ) → Finds (BoardBad p) (badBoardHead s p)
+  finds-board-head : (p : ℕ) → Finds (boardHead p .broken) (badBoardHead s p)
   unfolding badBoardHead
-  finds-board-head p = finds-pair p (means-other (majorAt s p) 1) (means-other (lengthAt s p) 0x60)
+  finds-board-head p = boardHead p .finds
 
-  abbrev PromSigBad : ℕ → ℕ → Type 0
-  PromSigBad p z = (z ≡ p) × ((majorAt s p ≡ 1 → ⊥) ⊎ (lengthAt s p < 0x20))
+  abbrev promSigHead : ℕ → Clause
+  promSigHead p = several (other (majorAt s) 1 p ∷ under (lengthAt s) EepromSig p ∷ []) p p (omega arith)
 
-  finds-prom-sig-head : (p : ℕ) → Finds (PromSigBad p) (badPromSigHead s p)
+  finds-prom-sig-head : (p : ℕ) → Finds (promSigHead p .broken) (badPromSigHead s p)
   unfolding badPromSigHead
-  finds-prom-sig-head p = finds-pair p (means-other (majorAt s p) 1) (means-under (lengthAt s p) EepromSig)
+  finds-prom-sig-head p = promSigHead p .finds
 
 module _ (k : Kinds) (s : List ℕ) where
   -- ---- rule 26: map, board and `$PromSig`, in this order
-  abbrev SomePromSigBad : ℕ → Type 0
-  SomePromSigBad z = (p : ℕ) × (PromSigAt k s p × PromSigBad s p z)
+  abbrev PromSigBad : ℕ → Type 0
+  PromSigBad z = (p : ℕ) × (PromSigAt k s p × promSigHead s p .broken z)
 
   abbrev HeadBad : ℕ → Type 0
-  HeadBad z = MapBad s (mapAt s) z ⊎ BoardBad s (boardAt s) z ⊎ SomePromSigBad z
+  HeadBad z = mapHead s (mapAt s) .broken z ⊎ boardHead s (boardAt s) .broken z ⊎ PromSigBad z
+
+  -- a `$PromSig` lies after the board
+  prom-sig-after : rule21 s ≡ Nothing → rule25 s ≡ Nothing → (z : ℕ) → PromSigBad z → laterAt s ≤ z
+  prom-sig-after head order z (p, (a, b)) =
+      omega (
+        arith,
+        promSigHead s p .within z b .0,
+        nth-all (Last s) (structures s) (a .0 .0) p (prom-sig-last s head order) (a .0 .1) (a .1) .0,
+      )
 
   finds-heads : rule21 s ≡ Nothing → rule25 s ≡ Nothing → Finds HeadBad (rule26 s)
   unfolding rule26 laterAt boardAt
   finds-heads head order =
+      let m : Clause = mapHead s (mapAt s) in
+      let b : Clause = boardHead s (boardAt s) in
       let f : Found = onFound (badPromSigHead s) (promSigAt s) in
-      finds-both (MapBad s (mapAt s)) (λ z. BoardBad s (boardAt s) z ⊎ SomePromSigBad z) (badMapHead s (mapAt s))
-      (orElse (badBoardHead s (boardAt s)) (orElse f Nothing)) (finds-map-head s (mapAt s))
-      (finds-both (BoardBad s (boardAt s)) SomePromSigBad (badBoardHead s (boardAt s)) (orElse f Nothing) (finds-board-head s (boardAt s))
-      (subst (Finds SomePromSigBad) (sym (orElse-nothing f))
-      (finds-on-prom-sig k s head order (badPromSigHead s) (PromSigBad s) (λ p a. finds-prom-sig-head s p)))
-      (λ y z h x. omega (arith, h .0, after z x, next-grows s (boardAt s))))
+      finds-both (m .broken) (λ z. b .broken z ⊎ PromSigBad z) (badMapHead s (mapAt s)) (orElse (badBoardHead s (boardAt s)) (orElse f Nothing))
+      (finds-map-head s (mapAt s))
+      (finds-both (b .broken) PromSigBad (badBoardHead s (boardAt s)) (orElse f Nothing) (finds-board-head s (boardAt s))
+      (subst (Finds PromSigBad) (sym (orElse-nothing f))
+      (finds-on-prom-sig k s head order (badPromSigHead s) (λ p. promSigHead s p .broken) (λ p a. finds-prom-sig-head s p)))
+      (λ y z h x. omega (arith, b .within y h .1, prom-sig-after head order z x, next-grows s (boardAt s))))
       (λ y z h x.
       elim x [
-        | inl b ↦ omega (arith, h .0, b .0, next-grows s (mapAt s))
-        | inr b ↦ omega (arith, h .0, after z b, next-grows s (mapAt s), next-grows s (boardAt s))
+        | inl c ↦ omega (arith, m .within y h .1, b .within z c .0, next-grows s (mapAt s))
+        | inr c ↦ omega (arith, m .within y h .1, prom-sig-after head order z c, next-grows s (mapAt s), next-grows s (boardAt s))
       ])
-    where
-      after : (z : ℕ) → SomePromSigBad z → laterAt s ≤ z
-      after z x =
-          let a = x .1 .0 in
-          omega (arith, x .1 .1 .0, nth-all (Last s) (structures s) (a .0 .0) (x .0) (prom-sig-last s head order) (a .0 .1) (a .1) .0)
 
   pub finds26 : rule21 s ≡ Nothing → rule25 s ≡ Nothing → Finds (Broken26 k s) (rule26 s)
   finds26 head order = finds-as HeadBad (Broken26 k s) to back (rule26 s) (finds-heads head order)
     where
-      second : Second k s (mapAt s)
-      second = second-is k s order (mapAt s) .1 refl
-
-      third : Third k s (boardAt s)
-      third = third-is k s order (boardAt s) .1 refl
-
       to : (z : ℕ) → HeadBad z → Broken26 k s z
-      to z (inl h) =
-          subst (Broken26 k s) (sym (h .0)) (elim (h .1) [ inl x ↦ Broken26.mapMajor second x | inr x ↦ Broken26.mapLength second x ])
-      to z (inr (inl h)) =
-          subst (Broken26 k s) (sym (h .0)) (elim (h .1) [ inl x ↦ Broken26.boardMajor third x | inr x ↦ Broken26.boardLength third x ])
-      to z (inr (inr h)) =
-          subst (Broken26 k s) (sym (h .1 .1 .0))
-          (elim (h .1 .1 .1) [ inl x ↦ Broken26.promSigMajor (h .1 .0) x | inr x ↦ Broken26.promSigLength (h .1 .0) x ])
+      to z (inl (inl (i, h))) = Broken26.mapMajor (second-is k s order z .1 i) h
+      to z (inl (inr (inl (i, h)))) = Broken26.mapLength (second-is k s order z .1 i) h
+      to z (inl (inr (inr h))) = absurd h
+      to z (inr (inl (inl (i, h)))) = Broken26.boardMajor (third-is k s order z .1 i) h
+      to z (inr (inl (inr (inl (i, h))))) = Broken26.boardLength (third-is k s order z .1 i) h
+      to z (inr (inl (inr (inr h)))) = absurd h
+      to z (inr (inr (p, (a, inl (i, h))))) = Broken26.promSigMajor (subst (PromSigAt k s) (sym i) a) h
+      to z (inr (inr (p, (a, inr (inl (i, h)))))) = Broken26.promSigLength (subst (PromSigAt k s) (sym i) a) h
+      to z (inr (inr (p, (a, inr (inr h))))) = absurd h
 
       back : (z : ℕ) → Broken26 k s z → HeadBad z
-      back z (Broken26.mapMajor e h) =
-          let i = second-is k s order z .0 e in inl (i, inl (subst (λ (p : ℕ). majorAt s p ≡ 1 → ⊥) i h))
-      back z (Broken26.boardMajor e h) =
-          let i = third-is k s order z .0 e in inr (inl (i, inl (subst (λ (p : ℕ). majorAt s p ≡ 1 → ⊥) i h)))
-      back z (Broken26.promSigMajor a h) = inr (inr (z, (a, (refl, inl h))))
-      back z (Broken26.boardLength e h) =
-          let i = third-is k s order z .0 e in inr (inl (i, inr (subst (λ (p : ℕ). lengthAt s p ≡ 0x60 → ⊥) i h)))
-      back z (Broken26.mapLength e h) =
-          let i = second-is k s order z .0 e in inl (i, inr (subst (λ (p : ℕ). NotWhole (lengthAt s p)) i h))
-      back z (Broken26.promSigLength a h) = inr (inr (z, (a, (refl, inr h))))
+      back z (Broken26.mapMajor e h) = inl (inl (second-is k s order z .0 e, h))
+      back z (Broken26.boardMajor e h) = inr (inl (inl (third-is k s order z .0 e, h)))
+      back z (Broken26.promSigMajor a h) = inr (inr (z, (a, inl (refl, h))))
+      back z (Broken26.boardLength e h) = inr (inl (inr (inl (third-is k s order z .0 e, h))))
+      back z (Broken26.mapLength e h) = inl (inr (inl (second-is k s order z .0 e, h)))
+      back z (Broken26.promSigLength a h) = inr (inr (z, (a, inr (inl (refl, h)))))
 
   -- ---- rule 28: the board's start
   pub finds28 : rule25 s ≡ Nothing → Finds (Broken28 k s) (rule28 s)

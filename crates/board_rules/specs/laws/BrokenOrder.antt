@@ -14,7 +14,8 @@ use Rattle.board_layout.specs.laws.Layout.{next-grows, end-next, structure-belo
 use Rattle.board_rules.specs.Broken.{StructureAt, Broken25}
 use Rattle.board_rules.specs.Rules.{rule21, rule23, expected, isEarly, outOfOrder, rule25}
 use Rattle.board_rules.specs.laws.BrokenPlaces.{onwards, nth-second, nth-third, nth-later, nth-starts, among-next, among-goes, second-place, third-place, second-there, third-there}
-use Rattle.board_rules.specs.laws.BrokenTests.{Means, means-equal, means-other, means-both, means-either, Told, told, SaysAt, finds-told}
+use Rattle.board_rules.specs.laws.BrokenTests.{Means, means-equal, means-other, means-both, means-either}
+use Rattle.board_rules.specs.laws.Clauses.{Clause, test, several}
 use Rattle.board_rules.specs.laws.Heads.{header-is}
 use Rattle.board_rules.specs.laws.Walk.{Fits, walk-fits}
 use Rattle.chain.specs.Finds.{Among, Finds}
@@ -22,7 +23,7 @@ use Rattle.chain.specs.First.{orElse, when, first}
 use Rattle.chain.specs.Nth.{nth}
 use Rattle.chain.specs.declared.Found.{Found}
 use Rattle.chain.specs.declared.Found.the-variants.{At, Nothing}
-use Rattle.chain.specs.laws.Finds.{Along, finds-as, finds-both, finds-when, finds-along}
+use Rattle.chain.specs.laws.Finds.{finds-as, finds-both, finds-when, finds-along}
 use Rattle.chain.specs.laws.First.{orElse-nothing, when-nothing}
 use Rattle.chain.specs.laws.Nth.{nth-all}
 use Rattle.chain.specs.laws.Places.{chain-within}
@@ -32,7 +33,7 @@ use Rattle.kinds.specs.declared.Kinds.{Kinds}
 module _ (s : List ℕ) where
   -- ---- the second and the third: one with signature g is due at p, and another is there, or none
   abbrev Missed : ℕ → ℕ → ℕ → Type 0
-  Missed g p z = ((z ≡ p) × (p < structLen s) × (signatureAt s p ≡ g → ⊥)) ⊎ ((z ≡ structLen s) × (structLen s ≤ p))
+  Missed g p z = ((z ≡ p) × (p < structLen s) × (signatureAt s z ≡ g → ⊥)) ⊎ ((z ≡ structLen s) × (structLen s ≤ p))
 
   -- it is missed at p, or at StructLen if that comes first
   missed-place : (g p z : ℕ) → Missed g p z → z ≡ min p (structLen s)
@@ -48,7 +49,7 @@ module _ (s : List ℕ) where
           finds-when (Missed g p) (not (eqb (signatureAt s p) g)) p (λ e. inl (refl, ltb-true p (structLen s) d, means-other (signatureAt s p) g .0 e))
           (λ z h.
           elim h [
-            | inl x ↦ (x .0, means-other (signatureAt s p) g .1 (x .2))
+            | inl x ↦ (x .0, means-other (signatureAt s p) g .1 (λ e. x .2 (ap (signatureAt s) (x .0) ∙ e)))
             | inr x ↦ absurd (omega (arith, x .1, ltb-true p (structLen s) d))
           ])
       go false d = (
@@ -67,35 +68,32 @@ module _ (s : List ℕ) where
         λ h. m .1 (elim h [ inl x ↦ inl (inl x) | inr x ↦ elim x [ inl y ↦ inl (inr y) | inr y ↦ inr y ] ]),
       )
 
-  abbrev orderTests : ℕ → List Told
-  orderTests p =
-      told p (means-early (signatureAt s p))
-      ∷ told p (means-both (means-equal (signatureAt s p) promSig) (means-other (endAt s p) (structLen s)))
-      ∷ []
-
-  order-own : (p z : ℕ) → SaysAt (orderTests p) z → (p ≤ z) × (z ≤ next s p)
-  order-own p z (inl h) = (omega (arith, h .0), omega (arith, h .0, next-grows s p))
-  order-own p z (inr (inl h)) = (omega (arith, h .0), omega (arith, h .0, next-grows s p))
-  order-own p z (inr (inr h)) = absurd h
+  abbrev ordered : ℕ → Clause
+  ordered p =
+      several
+      (test (λ z. Early (signatureAt s z)) p (means-early (signatureAt s p))
+      ∷ test (λ z. (signatureAt s z ≡ promSig) × (endAt s z ≡ structLen s → ⊥)) p
+      (means-both (means-equal (signatureAt s p) promSig) (means-other (endAt s p) (structLen s)))
+      ∷ [])
+      p (next s p) (omega (arith, next-grows s p))
 
   -- a later one is out of order at z
   abbrev Later : ℕ → Type 0
-  Later z = Along (outOfOrder s) (next s) (structLen s) (next-grows s) (λ p. SaysAt (orderTests p)) order-own (laterAt s) z
+  Later z = (p : ℕ) × (Among (onwards s (laterAt s)) p × ordered p .broken z)
 
   later-after : (z : ℕ) → Later z → laterAt s ≤ z
-  later-after z x =
+  later-after z (p, (a, b)) =
       omega (
         arith,
-        order-own (x .0) z (x .1 .1) .0,
-        nth-all (λ q. (laterAt s ≤ q) × (q < structLen s)) (onwards s (laterAt s)) (x .1 .0 .0) (x .0)
-            (chain-within (next s) (structLen s) (next-grows s) (laterAt s)) (x .1 .0 .1) .0,
+        ordered p .within z b .0,
+        nth-all (λ q. (laterAt s ≤ q) × (q < structLen s)) (onwards s (laterAt s)) (a .0) p
+            (chain-within (next s) (structLen s) (next-grows s) (laterAt s)) (a .1) .0,
       )
 
   finds-later : Finds Later (first (outOfOrder s) (onwards s (laterAt s)))
   unfolding outOfOrder
   finds-later =
-      finds-along (outOfOrder s) (next s) (structLen s) (next-grows s) (λ p. SaysAt (orderTests p)) order-own (laterAt s)
-      (λ p a. finds-told (orderTests p) (omega arith, tt))
+      finds-along (outOfOrder s) (next s) (structLen s) (next-grows s) (λ p. ordered p .broken) (λ p. ordered p .within) (laterAt s) (λ p a. ordered p .finds)
 
   -- ---- all of them, in their order
   abbrev OutOfOrder : ℕ → Type 0
@@ -122,34 +120,34 @@ module _ (k : Kinds) (s : List ℕ) where
   later-structure : (p : ℕ) → Among (onwards s (laterAt s)) p → StructureAt k s p
   later-structure p a = (3 + a .0, nth-later s (a .0) ∙ a .1)
 
+  -- a later one that does not end at StructLen has another after it
+  goes-on : rule23 s ≡ Nothing → (p : ℕ) → StructureAt k s p → (endAt s p ≡ structLen s → ⊥) → next s p < structLen s
+  goes-on walk p a more =
+      elim (nth-all (Fits s) (structures s) (a .0) p (walk-fits s walk) (a .1) .goes) [ inl e ↦ absurd (more e) | inr l ↦ l ]
+
   -- what is found breaks the rule
   order-broken : rule23 s ≡ Nothing → (z : ℕ) → OutOfOrder s z → Broken25 k s z
-  order-broken walk z (inl (inl h)) = subst (Broken25 k s) (sym (h .0)) (Broken25.secondOther (second-there k s (h .1)) (h .2))
-  order-broken walk z (inl (inr h)) =
-      Broken25.secondAbsent (nth-second s ∙ ap (λ (b : Bool). when b (mapAt s)) (le-ltb (mapAt s) (structLen s) (h .1))) (h .0)
-  order-broken walk z (inr (inl (inl h))) = subst (Broken25 k s) (sym (h .0)) (Broken25.thirdOther (third-there k s (h .1)) (h .2))
-  order-broken walk z (inr (inl (inr h))) =
-      Broken25.thirdAbsent (nth-third s ∙ ap (λ (b : Bool). when b (boardAt s)) (le-ltb (boardAt s) (structLen s) (h .1))) (h .0)
-  order-broken walk z (inr (inr x)) = later (x .0) (x .1 .0) (x .1 .1)
-    where
-      later : (p : ℕ) → Among (onwards s (laterAt s)) p → SaysAt (orderTests s p) z → Broken25 k s z
-      later p a (inl h) =
-          subst (Broken25 k s) (sym (h .0)) (Broken25.laterAgain (3 + a .0) (omega arith) (nth-later s (a .0) ∙ a .1) (h .1))
-      later p a (inr (inl h)) =
-          let b : StructureAt k s p = later-structure p a in
-          let f : Fits s p = nth-all (Fits s) (structures s) (b .0) p (walk-fits s walk) (b .1) in
-          let more : next s p < structLen s = elim (f .goes) [ inl e ↦ absurd (h .1 .1 e) | inr l ↦ l ] in
-          subst (Broken25 k s) (sym (h .0)) (Broken25.promSigNotLast (b, h .1 .0) (next s p) (among-goes s p b more) (next-grows s p))
-      later p a (inr (inr h)) = absurd h
+  order-broken walk z (inl (inl (i, there, g))) = Broken25.secondOther (rw i (second-there k s there)) g
+  order-broken walk z (inl (inr (i, past))) =
+      Broken25.secondAbsent (nth-second s ∙ ap (λ (b : Bool). when b (mapAt s)) (le-ltb (mapAt s) (structLen s) past)) i
+  order-broken walk z (inr (inl (inl (i, there, g)))) = Broken25.thirdOther (rw i (third-there k s there)) g
+  order-broken walk z (inr (inl (inr (i, past)))) =
+      Broken25.thirdAbsent (nth-third s ∙ ap (λ (b : Bool). when b (boardAt s)) (le-ltb (boardAt s) (structLen s) past)) i
+  order-broken walk z (inr (inr (p, (a, inl (i, early))))) =
+      Broken25.laterAgain (3 + a .0) (omega arith) (nth-later s (a .0) ∙ a .1 ∙ ap At (sym i)) early
+  order-broken walk z (inr (inr (p, (a, inr (inl (i, (g, more))))))) =
+      let b : StructureAt k s z = subst (StructureAt k s) (sym i) (later-structure p a) in
+      Broken25.promSigNotLast (b, g) (next s z) (among-goes s z b (goes-on walk z b more)) (next-grows s z)
+  order-broken walk z (inr (inr (p, (a, inr (inr h))))) = absurd h
 
   -- a `$PromSig` that is not last is out of order
   prom-sig-early : rule21 s ≡ Nothing → (i q p : ℕ) → nth (structures s) i ≡ At q → signatureAt s q ≡ promSig → StructureAt k s p → q < p → OutOfOrder s q
   prom-sig-early head zero q p e g b l =
       absurd (omega (arith, g, header-is s head .0, ap (signatureAt s) (nth-starts s 0 q e)))
   prom-sig-early head (suc zero) q p e g b l =
-      let w = second-place k s q e in inl (inl (w .0, w .1, λ d. omega (arith, g, d, ap (signatureAt s) (w .0))))
+      let w = second-place k s q e in inl (inl (w .0, w .1, λ d. omega (arith, g, d)))
   prom-sig-early head (suc (suc zero)) q p e g b l =
-      let w = third-place k s q e in inr (inl (inl (w .0, w .1, λ d. omega (arith, g, d, ap (signatureAt s) (w .0)))))
+      let w = third-place k s q e in inr (inl (inl (w .0, w .1, λ d. omega (arith, g, d))))
   prom-sig-early head (suc (suc (suc i))) q p e g b l =
       inr (inr (q, ((i, sym (nth-later s i) ∙ ap (nth (structures s)) (omega arith) ∙ e), inr (inl (refl, (g, not-last))))))
     where
@@ -160,11 +158,11 @@ module _ (k : Kinds) (s : List ℕ) where
   -- and what breaks the rule is out of order
   broken-order : rule21 s ≡ Nothing → (z : ℕ) → Broken25 k s z → OutOfOrder s z
   broken-order head z (Broken25.secondOther e n) =
-      let w = second-place k s z e in inl (inl (w .0, w .1, λ d. n (ap (signatureAt s) (w .0) ∙ d)))
+      let w = second-place k s z e in inl (inl (w .0, w .1, n))
   broken-order head z (Broken25.secondAbsent e i) =
       inl (inr (i, ltb-false (mapAt s) (structLen s) (when-nothing (ltb (mapAt s) (structLen s)) (mapAt s) (sym (nth-second s) ∙ e))))
   broken-order head z (Broken25.thirdOther e n) =
-      let w = third-place k s z e in inr (inl (inl (w .0, w .1, λ d. n (ap (signatureAt s) (w .0) ∙ d))))
+      let w = third-place k s z e in inr (inl (inl (w .0, w .1, n)))
   broken-order head z (Broken25.thirdAbsent e i) =
       inr (inl (inr (i, ltb-false (boardAt s) (structLen s) (when-nothing (ltb (boardAt s) (structLen s)) (boardAt s) (sym (nth-third s) ∙ e)))))
   broken-order head z (Broken25.laterAgain i h e early) =

@@ -14,11 +14,12 @@ use Rattle.board_layout.specs.laws.Layout.{next-grows, end-next}
 use Rattle.board_rules.specs.Broken.{StructureAt, DueAt, Broken23, Broken24}
 use Rattle.board_rules.specs.Rules.{misplaced, rule23, gapUsed, rule24}
 use Rattle.board_rules.specs.laws.BrokenPlaces.{among-goes}
-use Rattle.board_rules.specs.laws.BrokenTests.{means-under, means-most, means-other, means-both, Told, told, SaysAt, finds-told}
+use Rattle.board_rules.specs.laws.BrokenTests.{means-most, means-other, means-both}
+use Rattle.board_rules.specs.laws.Clauses.{Clause, test, over, under, other, several}
 use Rattle.chain.specs.Finds.{Finds}
 use Rattle.chain.specs.declared.Found.the-variants.{Nothing}
 use Rattle.chain.specs.laws.Below.{below}
-use Rattle.chain.specs.laws.Finds.{Along, finds-as, finds-range, finds-along}
+use Rattle.chain.specs.laws.Finds.{finds-as, finds-range, finds-along}
 use Rattle.kinds.specs.declared.Kinds.{Kinds}
 use Rattle.octets.specs.Bytes.{byte}
 use Rattle.octets.specs.Label.{dollar}
@@ -40,53 +41,50 @@ finds-nonzero s p from end =
     (nonzero s p from end) (finds-range (isSet s p) (λ i. p + i) (λ i j h. omega arith) from end)
 
 module _ (k : Kinds) (s : List ℕ) where
-  -- ---- rule 23
-  abbrev walkTests : ℕ → List Told
-  walkTests p =
-      told p (means-under (structLen s) (p + headSize))
-      ∷ told p (means-other (byte s p) dollar)
-      ∷ told p (means-under (lengthAt s p) headSize)
-      ∷ told p (means-under (structLen s) (endAt s p))
-      ∷ told (next s p) (means-both (means-other (endAt s p) (structLen s)) (means-most (structLen s) (next s p)))
-      ∷ []
+  -- ---- rule 23: the clauses of one structure, at its start and at the next one's
+  abbrev placed : ℕ → Clause
+  placed p =
+      several
+      (over (λ z. z + headSize) (structLen s) p
+      ∷ other (byte s) dollar p
+      ∷ under (lengthAt s) headSize p
+      ∷ over (endAt s) (structLen s) p
+      ∷ test (λ z. (endAt s p ≡ structLen s → ⊥) × (structLen s ≤ z)) (next s p)
+      (means-both (means-other (endAt s p) (structLen s)) (means-most (structLen s) (next s p)))
+      ∷ [])
+      p (next s p) (omega (arith, next-grows s p))
 
-  -- they are of the structure's start and of the next one's
-  walk-own : (p z : ℕ) → SaysAt (walkTests p) z → (p ≤ z) × (z ≤ next s p)
-  walk-own p z (inl h) = (omega (arith, h .0), omega (arith, h .0, next-grows s p))
-  walk-own p z (inr (inl h)) = (omega (arith, h .0), omega (arith, h .0, next-grows s p))
-  walk-own p z (inr (inr (inl h))) = (omega (arith, h .0), omega (arith, h .0, next-grows s p))
-  walk-own p z (inr (inr (inr (inl h)))) = (omega (arith, h .0), omega (arith, h .0, next-grows s p))
-  walk-own p z (inr (inr (inr (inr (inl h))))) = (omega (arith, h .0, next-grows s p), omega (arith, h .0))
-  walk-own p z (inr (inr (inr (inr (inr h))))) = absurd h
+  finds-misplaced : (p : ℕ) → Finds (placed p .broken) (misplaced s p)
+  unfolding misplaced
+  finds-misplaced p = placed p .finds
 
   -- some structure is misplaced at z
   abbrev Misplaced : ℕ → Type 0
-  Misplaced z = Along (misplaced s) (next s) (structLen s) (next-grows s) (λ p. SaysAt (walkTests p)) walk-own 0 z
+  Misplaced z = (p : ℕ) × (StructureAt k s p × placed p .broken z)
 
   -- where it is misplaced a structure is due
-  misplaced-due : (p z : ℕ) → StructureAt k s p → SaysAt (walkTests p) z → Broken23 k s z
-  misplaced-due p z a (inl h) = subst (Broken23 k s) (sym (h .0)) (Broken23.noRoom (inl a) (h .1))
-  misplaced-due p z a (inr (inl h)) = subst (Broken23 k s) (sym (h .0)) (Broken23.noDollar (inl a) (h .1))
-  misplaced-due p z a (inr (inr (inl h))) = subst (Broken23 k s) (sym (h .0)) (Broken23.lengthUnder (inl a) (h .1))
-  misplaced-due p z a (inr (inr (inr (inl h)))) = subst (Broken23 k s) (sym (h .0)) (Broken23.endPast (inl a) (h .1))
-  misplaced-due p z a (inr (inr (inr (inr (inl h))))) = Broken23.noRoom (inr (p, (a, h .1 .0, h .0))) (omega (arith, h .0, h .1 .1))
-  misplaced-due p z a (inr (inr (inr (inr (inr h))))) = absurd h
+  misplaced-due : (z : ℕ) → Misplaced z → Broken23 k s z
+  misplaced-due z (p, (a, inl (i, h))) = Broken23.noRoom (inl (subst (StructureAt k s) (sym i) a)) h
+  misplaced-due z (p, (a, inr (inl (i, h)))) = Broken23.noDollar (inl (subst (StructureAt k s) (sym i) a)) h
+  misplaced-due z (p, (a, inr (inr (inl (i, h))))) = Broken23.lengthUnder (inl (subst (StructureAt k s) (sym i) a)) h
+  misplaced-due z (p, (a, inr (inr (inr (inl (i, h)))))) = Broken23.endPast (inl (subst (StructureAt k s) (sym i) a)) h
+  misplaced-due z (p, (a, inr (inr (inr (inr (inl (i, h))))))) = Broken23.noRoom (inr (p, (a, h .0, i))) (omega (arith, h .1))
+  misplaced-due z (p, (a, inr (inr (inr (inr (inr h)))))) = absurd h
 
   -- and one that is due is there, or past StructLen
-  due-misplaced : (q : ℕ) → DueAt k s q → SaysAt (walkTests q) q → Misplaced q
+  due-misplaced : (q : ℕ) → DueAt k s q → placed q .broken q → Misplaced q
   due-misplaced q (inl a) h = (q, (a, h))
-  due-misplaced q (inr d) h =
+  due-misplaced q (inr (r, (a, more, i))) h =
       elim (below q (structLen s)) [
-        | inl l ↦ (q, (subst (StructureAt k s) (sym (d .1 .2)) (among-goes s (d .0) (d .1 .0) (omega (arith, d .1 .2, l))), h))
-        | inr l ↦ (d .0, (d .1 .0, inr (inr (inr (inr (inl (d .1 .2, (d .1 .1, omega (arith, d .1 .2, l)))))))))
+        | inl l ↦ (q, (subst (StructureAt k s) (sym i) (among-goes s r a (omega (arith, i, l))), h))
+        | inr l ↦ (r, (a, inr (inr (inr (inr (inl (i, (more, l))))))))
       ]
 
   pub finds23 : Finds (Broken23 k s) (rule23 s)
-  unfolding rule23 misplaced
+  unfolding rule23
   finds23 =
-      finds-as Misplaced (Broken23 k s) (λ z x. misplaced-due (x .0) z (x .1 .0) (x .1 .1)) back (rule23 s)
-      (finds-along (misplaced s) (next s) (structLen s) (next-grows s) (λ p. SaysAt (walkTests p)) walk-own 0
-      (λ p a. finds-told (walkTests p) (omega arith, (omega arith, (omega arith, (omega (arith, next-grows s p), tt))))))
+      finds-as Misplaced (Broken23 k s) misplaced-due back (rule23 s)
+      (finds-along (misplaced s) (next s) (structLen s) (next-grows s) (λ p. placed p .broken) (λ p. placed p .within) 0 (λ p a. finds-misplaced p))
     where
       back : (q : ℕ) → Broken23 k s q → Misplaced q
       back q (Broken23.noRoom d h) = due-misplaced q d (inl (refl, h))
@@ -115,18 +113,14 @@ module _ (k : Kinds) (s : List ℕ) where
           (λ z h. (omega (arith, h .1), omega (arith, h .2, end-next s p), h .3)) (nonzero s (endAt s p) 0 (next s p - endAt s p))
           (finds-nonzero s (endAt s p) 0 (next s p - endAt s p))
 
-  -- some structure has such a byte at z
-  abbrev GapUsed : ℕ → Type 0
-  GapUsed z = Along (gapUsed s) (next s) (structLen s) (next-grows s) GapAt gap-own 0 z
-
   pub finds24 : Finds (Broken24 k s) (rule24 s)
   unfolding rule24
   finds24 =
-      finds-as GapUsed (Broken24 k s) to back (rule24 s)
+      finds-as (λ z. (p : ℕ) × (StructureAt k s p × GapAt p z)) (Broken24 k s) to back (rule24 s)
       (finds-along (gapUsed s) (next s) (structLen s) (next-grows s) GapAt gap-own 0 (λ p a. finds-gap p))
     where
-      to : (z : ℕ) → GapUsed z → Broken24 k s z
-      to z x = let h = x .1 .1 in Broken24.gapNonzero (x .0) (x .1 .0) (h .0) (h .1) (h .2) (h .3)
+      to : (z : ℕ) → (p : ℕ) × (StructureAt k s p × GapAt p z) → Broken24 k s z
+      to z (p, (a, (more, from, up, set))) = Broken24.gapNonzero p a more from up set
 
-      back : (z : ℕ) → Broken24 k s z → GapUsed z
+      back : (z : ℕ) → Broken24 k s z → (p : ℕ) × (StructureAt k s p × GapAt p z)
       back z (Broken24.gapNonzero p a more from up set) = (p, (a, (more, from, up, set)))

@@ -6,15 +6,14 @@ use mathlib.Core.Logic.{_↔_}
 use mathlib.Core.Path.{_≡_, refl}
 use lib.ListN.{length}
 use Rattle.board_layout.specs.Layout.{structures}
-use Rattle.board_rules.specs.Broken.{Broken29, Broken30, Broken31, Broken32, Broken33, table}
+use Rattle.board_rules.specs.Broken.{table}
 use Rattle.board_rules.specs.Judged.{rules, judged}
-use Rattle.board_rules.specs.Rules.{rule21, rule22, rule23, rule25, rule26, rule29, rule30, rule31, rule32, rule33}
+use Rattle.board_rules.specs.laws.BrokenFields.{finds29, finds30, finds31}
 use Rattle.board_rules.specs.laws.BrokenHead.{finds20, finds21, finds22, finds27}
 use Rattle.board_rules.specs.laws.BrokenHeads.{finds26, finds28}
+use Rattle.board_rules.specs.laws.BrokenKnown.{finds32, finds33}
 use Rattle.board_rules.specs.laws.BrokenOrder.{finds25}
 use Rattle.board_rules.specs.laws.BrokenWalk.{finds23, finds24}
-use Rattle.chain.specs.Finds.{Finds}
-use Rattle.chain.specs.declared.Found.the-variants.{Nothing}
 use Rattle.kinds.specs.declared.Kinds.{Kinds}
 use Rattle.verdict.specs.Table.{Unbroken, FirstBroken}
 use Rattle.verdict.specs.Verdict.{refusal}
@@ -26,25 +25,20 @@ use Rattle.verdict.specs.laws.Table.{Searched}
 row : {n : ℕ} {A B : Type 0} → A → B → (n ≡ n) × A × B
 row finds more = (refl, finds, more)
 
-abbrev Before : List ℕ → Type 0 → Type 0
-Before s T = rule21 s ≡ Nothing → rule22 s ≡ Nothing → rule23 s ≡ Nothing → rule25 s ≡ Nothing → T
-
-module _ (finds29 : (k : Kinds) (s : List ℕ) → Before s (Finds (Broken29 k s) (rule29 s)))
-    (finds30 : (k : Kinds) (s : List ℕ) → Before s (rule26 s ≡ Nothing → Finds (Broken30 k s) (rule30 s)))
-    (finds31 : (k : Kinds) (s : List ℕ) → Before s (Finds (Broken31 k s) (rule31 s)))
-    (finds32 : (k : Kinds) (s : List ℕ) → Before s (rule26 s ≡ Nothing → Finds (Broken32 k s) (rule32 k s)))
-    (finds33 : (k : Kinds) (s : List ℕ) → Before s (Finds (Broken33 k s) (rule33 k s))) where
-  pub searched : (k : Kinds) (s : List ℕ) → Searched (table k s) (rules k s)
-  searched k s =
+module _ (k : Kinds) (s : List ℕ) where
+  -- the searches, row by row
+  pub searched : Searched (table k s) (rules k s)
+  searched =
       row (finds20 k s) λ e20. row (finds21 k s) λ e21. row (finds22 k s) λ e22. row (finds23 k s) λ e23. row (finds24 k s) λ e24.
       row (finds25 k s e21 e23) λ e25. row (finds26 k s e21 e25) λ e26. row (finds27 k s) λ e27. row (finds28 k s e25) λ e28.
-      row (finds29 k s e21 e22 e23 e25) λ e29. row (finds30 k s e21 e22 e23 e25 e26) λ e30. row (finds31 k s e21 e22 e23 e25) λ e31.
-      row (finds32 k s e21 e22 e23 e25 e26) λ e32. row (finds33 k s e21 e22 e23 e25) λ e33. tt
+      row (finds29 k s e21 e25) λ e29. row (finds30 k s e25) λ e30. row (finds31 k s e25) λ e31. row (finds32 k s) λ e32. row (finds33 k s) λ e33. tt
 
-  pub refused-exactly : (k : Kinds) (s : List ℕ) (n p : ℕ) → (judged k s ≡ refusal n p) ↔ FirstBroken (table k s) n p
+  -- refused with n at p: n is the first row that is broken, and p its smallest place
+  pub refused-exactly : (n p : ℕ) → (judged k s ≡ refusal n p) ↔ FirstBroken (table k s) n p
   unfolding judged
-  refused-exactly k s n p = verdict.refused-exactly (length (structures s)) (table k s) (rules k s) (searched k s) n p
+  refused-exactly = verdict.refused-exactly (length (structures s)) (table k s) (rules k s) searched
 
-  pub accepted-exactly : (k : Kinds) (s : List ℕ) (n : ℕ) → (judged k s ≡ Accepted n) ↔ (Unbroken (table k s) × (length (structures s) ≡ n))
+  -- accepted with n: no row is broken, and n structures are counted
+  pub accepted-exactly : (n : ℕ) → (judged k s ≡ Accepted n) ↔ (Unbroken (table k s) × (length (structures s) ≡ n))
   unfolding judged
-  accepted-exactly k s n = verdict.accepted-exactly (length (structures s)) (table k s) (rules k s) (searched k s) n
+  accepted-exactly = verdict.accepted-exactly (length (structures s)) (table k s) (rules k s) searched
