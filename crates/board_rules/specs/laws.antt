@@ -20,7 +20,7 @@ pub mod Bounds
 pub mod BrokenPlaces
 pub mod BrokenTests
 pub mod Clauses
-pub mod BrokenHead
+pub mod BrokenHeader
 pub mod BrokenWalk
 pub mod BrokenOrder
 pub mod BrokenHeads

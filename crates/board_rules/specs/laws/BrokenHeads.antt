@@ -30,6 +30,7 @@ use Rattle.kinds.specs.declared.Kinds.{Kinds}
 abbrev NotWhole : ℕ → Type 0
 NotWhole l = (n : ℕ) → 1 ≤ n → l ≡ 0x30 + 0x20 * n → ⊥
 
+-- the test says so
 means-not-whole : (l : ℕ) → Means (not (mapLengthFits l)) (NotWhole l)
 means-not-whole l = (λ e n h d. m .0 e (omega arith, omega arith), λ h. m .1 (λ w. h ((l - MapData) / mapRecordSize) (omega (arith, w .0)) (omega (arith, w .0, w .1))))
   where
@@ -37,7 +38,7 @@ means-not-whole l = (λ e n h d. m .0 e (omega arith, omega arith), λ h. m .1 (
     m = means-not (means-both (means-most (MapData + mapRecordSize) l) (means-equal ((l - MapData) % mapRecordSize) 0))
 
 module _ (s : List ℕ) where
-  -- ---- the head of one structure
+  -- ---- the head of one structure: the map's, the board's and that of a `$PromSig`
   abbrev mapHead : ℕ → Clause
   mapHead p =
       several (other (majorAt s) 1 p ∷ test (λ z. NotWhole (lengthAt s z)) p (means-not-whole (lengthAt s p)) ∷ []) p p (omega arith)
@@ -62,13 +63,15 @@ module _ (s : List ℕ) where
 
 module _ (k : Kinds) (s : List ℕ) where
   -- ---- rule 26: map, board and `$PromSig`, in this order
+  -- a `$PromSig` has a bad head at z
   abbrev PromSigBad : ℕ → Type 0
   PromSigBad z = (p : ℕ) × (PromSigAt k s p × promSigHead s p .broken z)
 
+  -- one of the three has
   abbrev HeadBad : ℕ → Type 0
   HeadBad z = mapHead s (mapAt s) .broken z ⊎ boardHead s (boardAt s) .broken z ⊎ PromSigBad z
 
-  -- a `$PromSig` lies after the board
+  -- it lies after the board
   prom-sig-after : rule21 s ≡ Nothing → rule25 s ≡ Nothing → (z : ℕ) → PromSigBad z → laterAt s ≤ z
   prom-sig-after head order z (p, (a, b)) =
       omega (
@@ -77,6 +80,7 @@ module _ (k : Kinds) (s : List ℕ) where
         nth-all (Last s) (structures s) (a .0 .0) p (prom-sig-last s head order) (a .0 .1) (a .1) .0,
       )
 
+  -- the rule finds the first of their places
   finds-heads : rule21 s ≡ Nothing → rule25 s ≡ Nothing → Finds HeadBad (rule26 s)
   unfolding rule26 laterAt boardAt
   finds-heads head order =

@@ -40,6 +40,7 @@ module _ (s : List ℕ) where
   missed-place g p z (inl h) = omega (arith, h .0, h .1)
   missed-place g p z (inr h) = omega (arith, h .0, h .1)
 
+  -- and that is where the search finds it missed
   finds-expected : (g p : ℕ) → Finds (Missed g p) (expected s g p)
   unfolding expected
   finds-expected g p = go (ltb p (structLen s)) refl
@@ -58,6 +59,7 @@ module _ (s : List ℕ) where
       )
 
   -- ---- the later ones
+  -- a signature that only the header, the second and the third have
   abbrev Early : ℕ → Type 0
   Early g = (g ≡ eeprMap) ⊎ (g ≡ brdInfo) ⊎ (g ≡ eeprom)
 
@@ -68,6 +70,7 @@ module _ (s : List ℕ) where
         λ h. m .1 (elim h [ inl x ↦ inl (inl x) | inr x ↦ elim x [ inl y ↦ inl (inr y) | inr y ↦ inr y ] ]),
       )
 
+  -- the clauses of one of them, at its start
   abbrev ordered : ℕ → Clause
   ordered p =
       several
@@ -81,6 +84,7 @@ module _ (s : List ℕ) where
   abbrev Later : ℕ → Type 0
   Later z = (p : ℕ) × (Among (onwards s (laterAt s)) p × ordered p .broken z)
 
+  -- it is one that starts from laterAt on
   later-after : (z : ℕ) → Later z → laterAt s ≤ z
   later-after z (p, (a, b)) =
       omega (
@@ -90,6 +94,7 @@ module _ (s : List ℕ) where
             (chain-within (next s) (structLen s) (next-grows s) (laterAt s)) (a .1) .0,
       )
 
+  -- the search along them finds the first such place
   finds-later : Finds Later (first (outOfOrder s) (onwards s (laterAt s)))
   unfolding outOfOrder
   finds-later =
@@ -99,6 +104,7 @@ module _ (s : List ℕ) where
   abbrev OutOfOrder : ℕ → Type 0
   OutOfOrder z = Missed eeprMap (mapAt s) z ⊎ Missed brdInfo (boardAt s) z ⊎ Later z
 
+  -- the rule finds the first of their places
   finds-order : Finds OutOfOrder (rule25 s)
   unfolding rule25 laterAt boardAt
   finds-order =
@@ -120,7 +126,7 @@ module _ (k : Kinds) (s : List ℕ) where
   later-structure : (p : ℕ) → Among (onwards s (laterAt s)) p → StructureAt k s p
   later-structure p a = (3 + a .0, nth-later s (a .0) ∙ a .1)
 
-  -- a later one that does not end at StructLen has another after it
+  -- one that does not end at StructLen has another after it
   goes-on : rule23 s ≡ Nothing → (p : ℕ) → StructureAt k s p → (endAt s p ≡ structLen s → ⊥) → next s p < structLen s
   goes-on walk p a more =
       elim (nth-all (Fits s) (structures s) (a .0) p (walk-fits s walk) (a .1) .goes) [ inl e ↦ absurd (more e) | inr l ↦ l ]
@@ -169,5 +175,6 @@ module _ (k : Kinds) (s : List ℕ) where
       inr (inr (z, ((i - 3, sym (nth-later s (i - 3)) ∙ ap (nth (structures s)) (omega arith) ∙ e), inl (refl, early))))
   broken-order head z (Broken25.promSigNotLast a p b h) = prom-sig-early head (a .0 .0) z p (a .0 .1) (a .1) b h
 
+  -- so the two are the same places
   pub finds25 : rule21 s ≡ Nothing → rule23 s ≡ Nothing → Finds (Broken25 k s) (rule25 s)
   finds25 head walk = finds-as (OutOfOrder s) (Broken25 k s) (order-broken walk) (broken-order head) (rule25 s) (finds-order s)

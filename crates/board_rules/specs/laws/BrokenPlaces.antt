@@ -22,7 +22,7 @@ use Rattle.chain.specs.declared.Found.{Found}
 use Rattle.chain.specs.declared.Found.the-variants.{At, Nothing}
 use Rattle.chain.specs.laws.Below.{below}
 use Rattle.chain.specs.laws.Chain.{chain-more, chain-end}
-use Rattle.chain.specs.laws.Finds.{Along, finds-as, finds-when, finds-along}
+use Rattle.chain.specs.laws.Finds.{finds-as, finds-when, finds-along}
 use Rattle.chain.specs.laws.First.{at-nothing, when-place, when-test}
 use Rattle.chain.specs.laws.Nth.{nth-all}
 use Rattle.chain.specs.laws.Places.{chain-within}
@@ -36,7 +36,7 @@ module _ (s : List ℕ) where
 
   -- ---- by their numbers
   -- number n + 1 from p on is number n from the next one on
-  pub nth-next : (p n : ℕ) → nth (onwards p) (suc n) ≡ nth (onwards (next s p)) n
+  nth-next : (p n : ℕ) → nth (onwards p) (suc n) ≡ nth (onwards (next s p)) n
   unfolding nth
   nth-next p n =
       elim (below p (structLen s)) [
@@ -45,7 +45,7 @@ module _ (s : List ℕ) where
       ]
 
   -- number 0 from p on starts at p, if that is before StructLen
-  pub nth-start : (p : ℕ) → nth (onwards p) 0 ≡ when (ltb p (structLen s)) p
+  nth-start : (p : ℕ) → nth (onwards p) 0 ≡ when (ltb p (structLen s)) p
   unfolding nth
   nth-start p =
       elim (below p (structLen s)) [
@@ -67,6 +67,7 @@ module _ (s : List ℕ) where
   nth-later i = ap (nth (structures s)) (omega arith) ∙ nth-next 0 (suc (suc i)) ∙ nth-next (mapAt s) (suc i) ∙ nth-next (boardAt s) i
 
   -- ---- one after another
+  -- number 0 is where they start, and the others are not before the next one
   pub nth-starts : (from p : ℕ) → nth (onwards from) 0 ≡ At p → from ≡ p
   nth-starts from p e = when-place (ltb from (structLen s)) from p (sym (nth-start from) ∙ e)
 
@@ -127,10 +128,10 @@ module _ (k : Kinds) (s : List ℕ) where
   third-is e q = (λ h. third-place q h .0, λ i. subst (Third k s) (sym i) (third-there (board-third s e .0)))
 
   -- the first `$PromSig` is found
-  pub prom-sig-finds : Finds (PromSigAt k s) (promSigAt s)
+  prom-sig-finds : Finds (PromSigAt k s) (promSigAt s)
   unfolding promSigAt
   prom-sig-finds =
-      finds-as (Along (isPromSig s) (next s) (structLen s) (next-grows s) Here own 0) (PromSigAt k s) to back (promSigAt s)
+      finds-as Somewhere (PromSigAt k s) to back (promSigAt s)
       (finds-along (isPromSig s) (next s) (structLen s) (next-grows s) Here own 0 each)
     where
       Here : ℕ → ℕ → Type 0
@@ -144,14 +145,17 @@ module _ (k : Kinds) (s : List ℕ) where
           finds-when (Here p) (eqb (signatureAt s p) promSig) p (λ t. (refl, eqb-true (signatureAt s p) promSig t))
           (λ z h. (h .0, eq-eqb (signatureAt s p) promSig (h .1)))
 
-      to : (z : ℕ) → Along (isPromSig s) (next s) (structLen s) (next-grows s) Here own 0 z → PromSigAt k s z
-      to z x = subst (PromSigAt k s) (sym (x .1 .1 .0)) (x .1 .0, x .1 .1 .1)
+      Somewhere : ℕ → Type 0
+      Somewhere z = (p : ℕ) × (StructureAt k s p × Here p z)
 
-      back : (z : ℕ) → PromSigAt k s z → Along (isPromSig s) (next s) (structLen s) (next-grows s) Here own 0 z
+      to : (z : ℕ) → Somewhere z → PromSigAt k s z
+      to z (p, (a, (i, g))) = subst (PromSigAt k s) (sym i) (a, g)
+
+      back : (z : ℕ) → PromSigAt k s z → Somewhere z
       back z h = (z, (h .0, (refl, h .1)))
 
   -- rules 21 and 25 find nothing: a `$PromSig` is the last structure, so there is but one
-  pub prom-sig-one : rule21 s ≡ Nothing → rule25 s ≡ Nothing → (p q : ℕ) → PromSigAt k s p → StructureAt k s q → q ≤ p
+  prom-sig-one : rule21 s ≡ Nothing → rule25 s ≡ Nothing → (p q : ℕ) → PromSigAt k s p → StructureAt k s q → q ≤ p
   prom-sig-one head e p q a b =
       elim (below p q) [
         | inl h ↦
@@ -161,7 +165,7 @@ module _ (k : Kinds) (s : List ℕ) where
       ]
 
   -- and it is the one that is found
-  pub prom-sig-is : rule21 s ≡ Nothing → rule25 s ≡ Nothing → (p : ℕ) → PromSigAt k s p ↔ (promSigAt s ≡ At p)
+  prom-sig-is : rule21 s ≡ Nothing → rule25 s ≡ Nothing → (p : ℕ) → PromSigAt k s p ↔ (promSigAt s ≡ At p)
   prom-sig-is head e p = (to (promSigAt s) prom-sig-finds, back (promSigAt s) prom-sig-finds)
     where
       to : (f : Found) → Finds (PromSigAt k s) f → PromSigAt k s p → f ≡ At p
@@ -177,10 +181,12 @@ module _ (k : Kinds) (s : List ℕ) where
       → Finds (λ z. (p : ℕ) × (PromSigAt k s p × B p z)) (onFound rule (promSigAt s))
   finds-on-prom-sig head e rule B each = go (promSigAt s) refl
     where
+      one : (q : ℕ) → promSigAt s ≡ At q → (p : ℕ) → PromSigAt k s p → p ≡ q
+      one q d p a = let c : promSigAt s ≡ At p = prom-sig-is head e p .0 a in cc
+
       go : (f : Found) → promSigAt s ≡ f → Finds (λ z. (p : ℕ) × (PromSigAt k s p × B p z)) (onFound rule f)
       go (At q) d =
           let a : PromSigAt k s q = prom-sig-is head e q .1 d in
           finds-as (B q) (λ z. (p : ℕ) × (PromSigAt k s p × B p z)) (λ z b. (q, (a, b)))
-          (λ z x. let i : x .0 ≡ q = (let c : promSigAt s ≡ At (x .0) = prom-sig-is head e (x .0) .0 (x .1 .0) in cc) in subst (λ (p : ℕ). B p z) i (x .1 .1)) (rule q)
-          (each q a)
+          (λ z x. subst (λ (p : ℕ). B p z) (one q d (x .0) (x .1 .0)) (x .1 .1)) (rule q) (each q a)
       go Nothing d = λ z x. at-nothing (sym (prom-sig-is head e (x .0) .0 (x .1 .0)) ∙ d)

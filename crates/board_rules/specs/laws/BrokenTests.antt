@@ -6,9 +6,11 @@ use mathlib.Core.Path.{_≡_, refl, sym}
 use lib.Dec.{eqb, ltb, leb}
 use borrow.Author.Tests.{eqb-true, eq-eqb, ltb-true, lt-ltb, leb-true, le-leb}
 
+-- b is set exactly where P is true
 abbrev pub Means : Bool → Type 0 → Type 0
 Means b P = (b ≡ true) ↔ P
 
+-- ---- of two numbers
 pub means-equal : (a b : ℕ) → Means (eqb a b) (a ≡ b)
 means-equal a b = (eqb-true a b, eq-eqb a b)
 
@@ -18,6 +20,7 @@ means-under a b = (ltb-true a b, lt-ltb a b)
 pub means-most : (a b : ℕ) → Means (leb a b) (a ≤ b)
 means-most a b = (leb-true a b, le-leb a b)
 
+-- ---- of other tests
 pub means-not : {b : Bool} {P : Type 0} → Means b P → Means (not b) (P → ⊥)
 means-not {b} {P} m = (λ e p. go b e (m .1 p), λ h. set b (λ e. h (m .0 e)))
   where

@@ -54,6 +54,7 @@ module _ (k : Kinds) (s : List ℕ) where
       ∷ [])
       p (next s p) (omega (arith, next-grows s p))
 
+  -- which rule 23 asks of it
   finds-misplaced : (p : ℕ) → Finds (placed p .broken) (misplaced s p)
   unfolding misplaced
   finds-misplaced p = placed p .finds
@@ -96,11 +97,12 @@ module _ (k : Kinds) (s : List ℕ) where
   abbrev GapAt : ℕ → ℕ → Type 0
   GapAt p z = (endAt s p ≡ structLen s → ⊥) × (endAt s p ≤ z) × (z < next s p) × (byte s z ≡ 0 → ⊥)
 
+  -- that is within its reach
   gap-own : (p z : ℕ) → GapAt p z → (p ≤ z) × (z ≤ next s p)
   unfolding endAt
   gap-own p z h = (omega (arith, h .1), omega (arith, h .2))
 
-  -- one structure
+  -- what rule 24 asks of it finds the first such byte
   finds-gap : (p : ℕ) → Finds (GapAt p) (gapUsed s p)
   unfolding gapUsed
   finds-gap p = go (eqb (endAt s p) (structLen s)) refl

@@ -9,7 +9,7 @@ use Rattle.board_layout.specs.Layout.{structures}
 use Rattle.board_rules.specs.Broken.{table}
 use Rattle.board_rules.specs.Judged.{rules, judged}
 use Rattle.board_rules.specs.laws.BrokenFields.{finds29, finds30, finds31}
-use Rattle.board_rules.specs.laws.BrokenHead.{finds20, finds21, finds22, finds27}
+use Rattle.board_rules.specs.laws.BrokenHeader.{finds20, finds21, finds22, finds27}
 use Rattle.board_rules.specs.laws.BrokenHeads.{finds26, finds28}
 use Rattle.board_rules.specs.laws.BrokenKnown.{finds32, finds33}
 use Rattle.board_rules.specs.laws.BrokenOrder.{finds25}
