@@ -19,7 +19,7 @@ use Rattle.board_rules.specs.Rules.{rule21, rule25, rule29, rule30, rule
 use Rattle.board_rules.specs.laws.BrokenPlaces.{second-is, third-is, finds-on-prom-sig}
 use Rattle.board_rules.specs.laws.BrokenRecords.{record-after, InRecord, finds-records}
 use Rattle.board_rules.specs.laws.BrokenTests.{Means, means-equal, means-under, means-other, means-both}
-use Rattle.board_rules.specs.laws.Clauses.{Clause, test, over, under, other, labelled, several}
+use Rattle.board_rules.specs.laws.Clauses.{Clause, test, over, under, other, ofLabel, several}
 use Rattle.chain.specs.Finds.{Finds}
 use Rattle.chain.specs.First.{first}
 use Rattle.chain.specs.Nth.{nth}
@@ -50,20 +50,25 @@ means-unfit false n e = (
 )
 
 module _ (s : List ℕ) where
-  -- the clauses of a `$PromSig`
+  -- the signed flag in the HashType at z, on a type other than 1 to 3
+  abbrev SignedOther : ℕ → Type 0
+  SignedOther z = (isSigned (le16 s z) ≡ true) × (isSignable (hashType (le16 s z)) ≡ false)
+
+  -- the Length of the structure at p does not fit it
+  abbrev Unfit : ℕ → ℕ → Type 0
+  Unfit p z =
+      let e : ℕ = EepromSig + hashSize (hashType (le16 s z)) in
+      ((isSigned (le16 s z) ≡ false) × (lengthAt s p ≡ e → ⊥)) ⊎ ((isSigned (le16 s z) ≡ true) × (lengthAt s p < e))
+
+  -- the clauses of a `$PromSig`, all at its HashType
   abbrev hashAt : ℕ → Clause
   hashAt p =
       let q : ℕ = p + HashType in
       let h : ℕ = le16 s q in
       several
       (test (λ z. 5 < hashType (le16 s z)) q (means-under 5 (hashType h))
-      ∷ test (λ z. (isSigned (le16 s z) ≡ true) × (isSignable (hashType (le16 s z)) ≡ false)) q
-      (means-both (λ e. e, λ e. e) (not-true (isSignable (hashType h)), ap not))
-      ∷ test
-      (λ z.
-      ((isSigned (le16 s z) ≡ false) × (lengthAt s p ≡ EepromSig + hashSize (hashType (le16 s z)) → ⊥))
-      ⊎ ((isSigned (le16 s z) ≡ true) × (lengthAt s p < EepromSig + hashSize (hashType (le16 s z)))))
-      q (means-unfit (isSigned h) (lengthAt s p) (EepromSig + hashSize (hashType h)))
+      ∷ test SignedOther q (means-both (λ e. e, λ e. e) (not-true (isSignable (hashType h)), ap not))
+      ∷ test (Unfit p) q (means-unfit (isSigned h) (lengthAt s p) (EepromSig + hashSize (hashType h)))
       ∷ [])
       q q (omega arith, (omega arith, (omega arith, omega arith)))
 
@@ -75,7 +80,7 @@ module _ (s : List ℕ) where
   abbrev mapFields : ℕ → Clause
   mapFields m =
       several
-      (labelled s (m + PartLabel)
+      (ofLabel s (m + PartLabel)
       ∷ test (λ z. le32 s z ≡ 0) (m + BlkLength) (means-equal (le32 s (m + BlkLength)) 0)
       ∷ other (le32 s) (mapCount s m * le32 s (m + BlkLength)) (m + PartSize)
       ∷ under (le32 s) (structLen s) (m + PartSize)
@@ -92,7 +97,7 @@ module _ (s : List ℕ) where
   abbrev mapRecord : ℕ → ℕ → Clause
   mapRecord m r =
       several
-      (labelled s (r + MapLabel)
+      (ofLabel s (r + MapLabel)
       ∷ other (le32 s) mapRecordSize (r + MapLength)
       ∷ other (le32 s) (mapNumber m r * le32 s (m + BlkLength)) (r + MapOffset)
       ∷ over (byte s) 0x7F (r + Address)

@@ -20,7 +20,7 @@ use Rattle.board_records.specs.Records.{dataSizeFits, badGpioRecord}
 use Rattle.board_rules.specs.laws.BrokenRecords.{record-after, InRecord, finds-records}
 use Rattle.board_rules.specs.laws.BrokenTables.{TableOf, no, table-of, map, fpga, gpio, others}
 use Rattle.board_rules.specs.laws.BrokenTests.{Means, means-equal, means-not, means-either}
-use Rattle.board_rules.specs.laws.Clauses.{Clause, test, over, other, labelled, several}
+use Rattle.board_rules.specs.laws.Clauses.{Clause, test, over, other, ofLabel, several}
 use Rattle.chain.specs.Finds.{Among, Finds, Nowhere}
 use Rattle.chain.specs.First.{first, orElse, when}
 use Rattle.chain.specs.declared.Found.the-variants.{At}
@@ -46,7 +46,7 @@ module _ (s : List ℕ) where
   abbrev pub gpioRecord : ℕ → Clause
   gpioRecord r =
       several
-      (labelled s (r + GpioLabel)
+      (ofLabel s (r + GpioLabel)
       ∷ other (le32 s) gpioRecordSize (r + GpioLength)
       ∷ test (λ z. OtherSize (byte s z)) (r + DataSize) (means-other-size (byte s (r + DataSize)))
       ∷ over (byte s) 4 (r + GpioDataType)

@@ -19,9 +19,8 @@ pub record Clause : Type 1 where
   pub found : Found
   pub broken : ℕ → Type 0
   pub finds : Finds broken found
-  -- it is broken from here
+  -- it is broken nowhere before `from`, and nowhere after `upto`
   pub from : ℕ
-  -- up to here
   pub upto : ℕ
   pub rises : from ≤ upto
   pub within : (z : ℕ) → broken z → (from ≤ z) × (z ≤ upto)
@@ -52,8 +51,8 @@ abbrev pub other : (ℕ → ℕ) → ℕ → ℕ → Clause
 other f n q = test (λ z. f z ≡ n → ⊥) q (means-other (f q) n)
 
 -- ---- a label of sixteen bytes
-abbrev pub labelled : List ℕ → ℕ → Clause
-labelled s q =
+abbrev pub ofLabel : List ℕ → ℕ → Clause
+ofLabel s q =
     record {
       found = badLabel s q;
       broken = BadAt s q;
