@@ -6,9 +6,9 @@ use std::mem::MaybeUninit;
 
 /// A refusal as it is answered: its number from bit 32 on, its place below.
 #[derive(Clone, Copy, Debug, PartialEq)]
-struct Refusal(u64);
+pub struct Refusal(pub u64);
 
-type Judged<T> = Result<T, Refusal>;
+pub type Judged<T> = Result<T, Refusal>;
 
 fn refusal(number: u8, place: usize) -> Refusal {
     Refusal(u64::from(number) << 32 | place as u64)
@@ -153,13 +153,52 @@ fn tiny_item(body: &[u8], place: usize) -> Option<TinyItem<'_>> {
 }
 
 /// An accepted tiny image.
-struct Tiny<'a> {
+pub struct Tiny<'a> {
     /// The bytes before the check; the items start at 3.
     body: &'a [u8],
     kinds: u32,
-    count: usize,
+    pub count: usize,
     /// The strings, empty without a pool; none at all if 01 is not on the list.
     pool: Option<&'a [u8]>,
+}
+
+/// What is shown of a tiny item: of one that is not known its kind, place and data length alone.
+pub struct ShownTiny<'a> {
+    pub tag: u8,
+    pub place: usize,
+    pub length: usize,
+    pub fields: Option<TinyFields<'a>>,
+}
+
+pub enum TinyFields<'a> {
+    /// The count of strings, and where the data are and how long.
+    Pool(usize, usize, usize),
+    Serial(Reference<'a>),
+    Flags(u8),
+    Address(&'a [u8]),
+    Identity(Identity<'a>),
+}
+
+pub struct Identity<'a> {
+    pub serial: Reference<'a>,
+    pub part: Reference<'a>,
+    pub major: u8,
+    pub minor: u8,
+    pub characters: [u8; 2],
+    pub batch: Option<u16>,
+}
+
+/// A string as it lies in the pool, its end mark set; none if it is undecodable.
+pub type Reference<'a> = Option<&'a [u8]>;
+
+/// The strings of a pool.
+fn strings(pool: &[u8]) -> impl Iterator<Item = &[u8]> {
+    pool.split_inclusive(|byte| byte & 0x80 != 0)
+}
+
+/// The text of a string: its end mark cleared.
+pub fn text(string: &[u8]) -> Vec<u8> {
+    string.iter().map(|byte| byte & 0x7F).collect()
 }
 
 impl<'a> Tiny<'a> {
@@ -171,9 +210,61 @@ impl<'a> Tiny<'a> {
             Some(item)
         })
     }
+
+    /// The item of a number.
+    pub fn item(&self, number: usize) -> Judged<ShownTiny<'a>> {
+        self.items().nth(number).map(|item| self.show(item)).ok_or(refusal(42, 0))
+    }
+
+    /// How many strings there are in a listed pool.
+    pub fn string_count(&self) -> usize {
+        self.pool.map_or(0, |pool| strings(pool).count())
+    }
+
+    /// The string of a number; any is undecodable if 01 is not on the list.
+    pub fn string(&self, number: usize) -> Judged<Reference<'a>> {
+        let Some(pool) = self.pool else { return Ok(None) };
+        strings(pool).nth(number).map(Some).ok_or(refusal(42, 0))
+    }
+
+    /// What an index of a known item stands for; rule 10 holds it below the string count.
+    fn reference(&self, index: u8) -> Reference<'a> {
+        self.pool.map(|pool| strings(pool).nth(index.into()).expect("rule 10"))
+    }
+
+    fn show(&self, item: TinyItem<'a>) -> ShownTiny<'a> {
+        let known = tag_known(self.kinds, item.tag);
+        ShownTiny {
+            tag: item.tag,
+            place: item.place,
+            length: item.data.len(),
+            fields: known.then(|| self.fields(item)),
+        }
+    }
+
+    /// The fields of a known item.
+    fn fields(&self, item: TinyItem<'a>) -> TinyFields<'a> {
+        match (item.tag, item.data) {
+            (0x01, data) => TinyFields::Pool(strings(data).count(), item.inside, data.len()),
+            (0x10, &[index]) => TinyFields::Serial(self.reference(index)),
+            (0x11, &[flags]) => TinyFields::Flags(flags),
+            (0x60, address) => TinyFields::Address(address),
+            (_, &[serial, part, major, minor, first, second, ref batch @ ..]) => {
+                TinyFields::Identity(Identity {
+                    serial: self.reference(serial),
+                    part: self.reference(part),
+                    major,
+                    minor,
+                    characters: [first, second],
+                    batch: batch.first_chunk().map(|bytes| u16_at::<2>(bytes, 0)),
+                })
+            }
+            _ => unreachable!("a tag says how many data bytes it has"),
+        }
+    }
 }
 
-fn judge_tiny(image: &[u8], kinds: u32) -> Judged<Tiny<'_>> {
+pub fn judge_tiny(image: &[u8], kinds: u32) -> Judged<Tiny<'_>> {
     let body = tiny_frame(image)?;
     let listed = tag_known(kinds, 0x01);
     let (count, pool) = tiny_shape(body, listed)?;
@@ -258,7 +349,7 @@ fn identity_break(data: &[u8]) -> Option<usize> {
 }
 
 /// 00h to 63h as '00' to '99', 80h to 99h as '0A' to '0Z'.
-fn major_text(major: u8) -> [u8; 2] {
+pub fn major_text(major: u8) -> [u8; 2] {
     match major {
         0..=0x63 => [b'0' + major / 10, b'0' + major % 10],
         _ => [b'0', b'A'.wrapping_add(major & 0x7F)],
@@ -266,14 +357,13 @@ fn major_text(major: u8) -> [u8; 2] {
 }
 
 /// The text of the only serial, end mark cleared, to the front of the buffer: rule 44, then 43.
-fn name_tiny(image: &[u8], kinds: u32, buffer: &mut [u8]) -> Judged<usize> {
+pub fn name_tiny(image: &[u8], kinds: u32, buffer: &mut [u8]) -> Judged<usize> {
     let tiny = judge_tiny(image, kinds)?;
     let mut serials = tiny.items().filter(|item| item.tag == 0x10 && tag_known(kinds, 0x10));
     let (Some(serial), None, Some(pool)) = (serials.next(), serials.next(), tiny.pool) else {
         return Err(refusal(44, 0));
     };
-    let mut strings = pool.split_inclusive(|byte| byte & 0x80 != 0);
-    let text = serial.data.first().and_then(|&index| strings.nth(usize::from(index)));
+    let text = serial.data.first().and_then(|&index| strings(pool).nth(usize::from(index)));
     let text = text.ok_or(refusal(44, 0))?;
     let room = buffer.get_mut(..text.len()).ok_or(refusal(43, 0))?;
     for (to, from) in room.iter_mut().zip(text) {
@@ -285,35 +375,8 @@ fn name_tiny(image: &[u8], kinds: u32, buffer: &mut [u8]) -> Judged<usize> {
 /// Goes from item to item and shows each; the count of known ones.
 fn walk_tiny(image: &[u8], kinds: u32) -> Judged<usize> {
     let tiny = judge_tiny(image, kinds)?;
-    let (mut bounds, mut strings, mut known) = ([0u8; 257], 0, 0);
-    let marked = tiny.pool.unwrap_or(&[]).iter().zip(1..).filter(|&(byte, _)| byte & 0x80 != 0);
-    for (bound, (_, end)) in bounds.iter_mut().skip(1).zip(marked) {
-        *bound = end;
-        strings += 1;
-    }
-    let text = |index: u8| {
-        let (from, to) = (bounds[usize::from(index)], bounds[usize::from(index) + 1]);
-        tiny.pool?.get(usize::from(from)..usize::from(to))
-    };
-    for item in tiny.items() {
-        black_box((item.tag, item.place, item.data.len()));
-        if !tag_known(kinds, item.tag) {
-            continue;
-        }
-        known += 1;
-        match (item.tag, item.data) {
-            (0x01, pool) => _ = black_box((item.inside, pool.len(), strings)),
-            (0x10, &[index]) => _ = black_box(text(index)),
-            (0x11, &[flags]) => _ = black_box(flags),
-            (0x60, &[a, b, c, d, e, f]) => _ = black_box([a, b, c, d, e, f]),
-            (_, &[serial, part, major, minor, first, second, ref batch @ ..]) => {
-                black_box((text(serial), text(part), major_text(major), minor));
-                black_box(([first, second], batch.first_chunk().map(|b| u16_at::<2>(b, 0))));
-            }
-            _ => {}
-        }
-    }
-    Ok(known)
+    let shown = tiny.items().map(|item| black_box(tiny.show(item)));
+    Ok(shown.filter(|item| item.fields.is_some()).count())
 }
 
 // ---- board image ----
@@ -347,9 +410,14 @@ struct Structure<'a> {
     bytes: &'a [u8],
 }
 
-impl Structure<'_> {
+impl<'a> Structure<'a> {
     fn end(&self) -> usize {
         self.place + self.bytes.len()
+    }
+
+    /// The whole records after the fixed part.
+    fn records<const SIZE: usize>(&self) -> &'a [[u8; SIZE]] {
+        self.bytes.get(self.reserved().1..).map_or(&[], |data| data.as_chunks().0)
     }
 
     fn known(&self, kinds: u32) -> bool {
@@ -395,13 +463,125 @@ fn structures(area: &[u8]) -> impl Iterator<Item = Structure<'_>> {
 }
 
 /// An accepted board image: its first StructLen bytes, and its `$BrdInfo`.
-struct Board<'a> {
+pub struct Board<'a> {
     area: &'a [u8],
-    count: usize,
+    kinds: u32,
+    pub count: usize,
     info: &'a [u8],
 }
 
-fn judge_board(image: &[u8], kinds: u32) -> Judged<Board<'_>> {
+/// What is shown of a structure: of one that is not known its kind, place and data length alone.
+pub struct ShownBoard<'a> {
+    pub signature: [u8; 8],
+    pub place: usize,
+    pub length: usize,
+    pub fields: Option<BoardFields<'a>>,
+}
+
+pub struct BoardFields<'a> {
+    pub major: u16,
+    pub minor: u16,
+    /// Length, the head included.
+    pub length: usize,
+    pub rows: Vec<Field<'a>>,
+    /// Where what follows the fields is and how long, if the table has such a row.
+    pub data: Option<(usize, usize)>,
+}
+
+/// A field with the label that its table gives it.
+pub type Field<'a> = (&'static str, Value<'a>);
+
+pub enum Value<'a> {
+    Number(u32),
+    Bytes(&'a [u8]),
+}
+
+/// A row of a table that is shown: its label, offset and length.
+type Row = (&'static str, usize, usize);
+
+const MAP_RECORD: [Row; 4] =
+    [("MapLabel", 0x00, 16), ("Length", 0x10, 4), ("Offset", 0x14, 4), ("Address", 0x18, 1)];
+
+const GPIO_RECORD: [Row; 7] = [
+    ("GpioLabel", 0x00, 16), ("Length", 0x10, 4), ("Offset", 0x14, 4), ("AndData", 0x18, 4),
+    ("OrData", 0x1C, 4), ("DataSize", 0x20, 1), ("DataType", 0x21, 1),
+];
+
+/// The rows of a structure between its generic head and its Reserved row, but Crc32.
+fn rows(signature: u64) -> &'static [Row] {
+    match signature {
+        EEPROM => &[("StructLen", 0x10, 4), ("CrcLength", 0x18, 4), ("Version", 0x1C, 4)],
+        MAP => &[
+            ("PartLabel", 0x10, 16), ("BlkLength", 0x20, 4), ("PageSize", 0x24, 2), ("PartSize", 0x26, 4),
+            ("BusNumber", 0x2A, 1), ("Master", 0x2B, 1), ("Speed", 0x2C, 1),
+        ],
+        BOARD => &[
+            ("ManuName", 0x10, 16), ("BrdName", 0x20, 16), ("BrdSerial", 0x30, 16), ("BoardId", 0x40, 4),
+            ("FabId", 0x44, 4), ("EcId", 0x48, 4), ("BoardType", 0x4C, 1),
+        ],
+        PROM_SIG => &[("HashType", 0x10, 2)],
+        FPGA => &[("DataType", 0x10, 1), ("DevNum", 0x11, 1), ("FuncNum", 0x12, 1)],
+        MEMORY => &[("SpdSlot", 0x10, 2)],
+        MAC => &[("NicId", 0x10, 8), ("MacAddr", 0x18, 6), ("NicNum", 0x1E, 2)],
+        _ => &[],
+    }
+}
+
+/// The fields of a table. One, two or four bytes are a number; labels, names and the NIC's address
+/// are bytes.
+fn fields<'a>(rows: &'static [Row], bytes: &'a [u8]) -> Vec<Field<'a>> {
+    let field = |&(label, offset, length): &Row| {
+        let bytes = &bytes[offset..offset + length];
+        let number = bytes.iter().rev().fold(0, |number, &byte| number << 8 | u32::from(byte));
+        (label, if matches!(length, 1 | 2 | 4) { Value::Number(number) } else { Value::Bytes(bytes) })
+    };
+    rows.iter().map(field).collect()
+}
+
+impl<'a> Board<'a> {
+    /// The structure of a number.
+    pub fn item(&self, number: usize) -> Judged<ShownBoard<'a>> {
+        structures(self.area).nth(number).map(|structure| self.show(structure)).ok_or(refusal(42, 0))
+    }
+
+    /// The map record of a number.
+    pub fn map_record(&self, number: usize) -> Judged<Vec<Field<'a>>> {
+        let map = structures(self.area).find(|structure| structure.signature == MAP);
+        let records = map.map_or(&[][..], |map| map.records::<0x20>());
+        records.get(number).map(|record| fields(&MAP_RECORD, record)).ok_or(refusal(42, 0))
+    }
+
+    /// The GPIO record of a number in the structure of a number; one that is not known, or no GPIO
+    /// data, has none.
+    pub fn gpio_record(&self, item: usize, number: usize) -> Judged<Vec<Field<'a>>> {
+        let gpio = structures(self.area).nth(item);
+        let gpio = gpio.filter(|gpio| gpio.signature == GPIO && gpio.known(self.kinds));
+        let records = gpio.map_or(&[][..], |gpio| gpio.records::<0x30>());
+        records.get(number).map(|record| fields(&GPIO_RECORD, record)).ok_or(refusal(42, 0))
+    }
+
+    /// Of a known one the fields of its table but reserved bytes and Crc32; what follows (records
+    /// too) by place and length.
+    fn show(&self, structure: Structure<'a>) -> ShownBoard<'a> {
+        let Structure { place, signature, major, minor, bytes } = structure;
+        let (length, start) = (bytes.len(), structure.reserved().1);
+        let follows = !matches!(signature, EEPROM | BOARD);
+        ShownBoard {
+            signature: signature.to_le_bytes(),
+            place,
+            length: length - 16,
+            fields: structure.known(self.kinds).then(|| BoardFields {
+                major,
+                minor,
+                length,
+                rows: fields(rows(signature), bytes),
+                data: follows.then(|| (place + start, length - start)),
+            }),
+        }
+    }
+}
+
+pub fn judge_board(image: &[u8], kinds: u32) -> Judged<Board<'_>> {
     let area = board_frame(image)?;
     let (count, last) = board_shape(area)?;
     let prom_sig = Some(last).filter(|last| last.signature == PROM_SIG);
@@ -414,7 +594,7 @@ fn judge_board(image: &[u8], kinds: u32) -> Judged<Board<'_>> {
     hold(30, map.place, map_break(map.bytes, area.len()))?;
     hold(31, info.place, info.bytes.get(0x4C).filter(|&&kind| kind > 1).map(|_| 0x4C))?;
     board_contents(area, kinds)?;
-    Ok(Board { area, count, info: info.bytes })
+    Ok(Board { area, kinds, count, info: info.bytes })
 }
 
 /// Rules 20 to 22: the first StructLen bytes.
@@ -589,37 +769,8 @@ fn newer(one: &Board, other: &Board) -> bool {
 /// Goes from structure to structure and shows each; the count of known ones.
 fn walk_board(image: &[u8], kinds: u32) -> Judged<usize> {
     let board = judge_board(image, kinds)?;
-    let mut known = 0;
-    for structure in structures(board.area) {
-        black_box((structure.signature, structure.place, structure.bytes.len() - 16));
-        if structure.known(kinds) {
-            known += 1;
-            show_structure(&structure);
-        }
-    }
-    Ok(known)
-}
-
-/// The fields of its table but reserved bytes and Crc32; what follows (records too) by place
-/// and length.
-fn show_structure(structure: &Structure) {
-    let Some((fixed, rest)) = structure.bytes.split_at_checked(structure.reserved().1) else { return };
-    black_box((structure.major, structure.minor, structure.end() - rest.len(), rest.len()));
-    if let (BOARD, Some(b)) = (structure.signature, fixed.first_chunk::<0x60>()) {
-        black_box((&b[0x10..0x20], &b[0x20..0x30], &b[0x30..0x40]));
-        black_box((u32_at(b, 0x40), u32_at(b, 0x44), u32_at(b, 0x48), b[0x4C]));
-    } else if let (MAP, Some(b)) = (structure.signature, fixed.first_chunk::<0x30>()) {
-        black_box((&b[0x10..0x20], u32_at(b, 0x20), u16_at(b, 0x24), u32_at(b, 0x26)));
-        black_box((b[0x2A], b[0x2B], b[0x2C]));
-    } else if let Some(b) = fixed.first_chunk::<0x20>() {
-        match structure.signature {
-            EEPROM => _ = black_box((u32_at(b, 0x10), u32_at(b, 0x18), u32_at(b, 0x1C))),
-            FPGA => _ = black_box((b[0x10], b[0x11], b[0x12])),
-            MEMORY | PROM_SIG => _ = black_box(u16_at(b, 0x10)),
-            MAC => _ = black_box((&b[0x10..0x18], &b[0x18..0x1E], u16_at(b, 0x1E))),
-            _ => {}
-        }
-    }
+    let shown = structures(board.area).map(|structure| black_box(board.show(structure)));
+    Ok(shown.filter(|structure| structure.fields.is_some()).count())
 }
 
 // ---- the filled list ----
@@ -1089,6 +1240,80 @@ mod tests {
         let known: Vec<u64> = rows.iter().map(|row| row[3]).collect();
         assert_eq!((says, &known[..8]), ((0, 8), &[1, 1, 1, 0, 1, 1, 0, 0][..]));
         assert_eq!((rows[4], rows[8]), ([GPIO, 0x130, 0x40, 1], left));
+    }
+
+    /// The shown rows of each table are those of 000, one after the other from the generic head to
+    /// Reserved, Crc32 left out; of a record from its start.
+    #[test]
+    fn tables() {
+        let ends = |rows: &[Row], from: usize| {
+            rows.iter().fold(from, |end, &(label, offset, length)| {
+                assert_eq!(offset, if label == "CrcLength" { end + 4 } else { end }, "{label}");
+                offset + length
+            })
+        };
+        for signature in [EEPROM, MAP, BOARD, PROM_SIG].into_iter().chain(LISTED) {
+            let empty = Structure { place: 0, signature, major: 1, minor: 0, bytes: &[] };
+            assert_eq!(ends(rows(signature), 0x10), empty.reserved().0);
+        }
+        assert_eq!((ends(&MAP_RECORD, 0), ends(&GPIO_RECORD, 0)), (0x19, 0x22));
+    }
+
+    #[test]
+    fn shown_tiny() {
+        let items = [0x80, 0, 1, 0x99, 7, b'x', b'y', 0x0F, 0x27, 0x60, 1, 2, 3, 4, 5, 6, 0x10, 1, 0x20, 8, 9];
+        let image = tiny(&[&items[..], &[0x01, 3, 0x41, 0xC2, 0xC3]].concat());
+        let full = judge_tiny(&image, FULL).unwrap();
+        let Ok(ShownTiny { tag: 0x80, place: 3, length: 8, fields: Some(TinyFields::Identity(shown)) }) = full.item(0) else {
+            panic!()
+        };
+        assert_eq!((shown.serial.map(text), shown.part.map(text)), (Some(b"AB".to_vec()), Some(b"C".to_vec())));
+        assert_eq!((major_text(shown.major), shown.minor, shown.characters), (*b"0Z", 7, *b"xy"));
+        assert_eq!(shown.batch, Some(9999));
+        assert!(matches!(full.item(1).unwrap().fields, Some(TinyFields::Address(&[1, 2, 3, 4, 5, 6]))));
+        assert!(matches!(full.item(2).unwrap().fields, Some(TinyFields::Serial(Some(&[0xC3])))));
+        assert!(matches!(full.item(3), Ok(ShownTiny { tag: 0x20, place: 21, length: 2, fields: None })));
+        assert!(matches!(full.item(4).unwrap().fields, Some(TinyFields::Pool(2, 26, 3))));
+        assert_eq!(full.item(5).err(), Some(refusal(42, 0)));
+        assert_eq!((full.string(1), full.string(2)), (Ok(Some(&[0xC3][..])), Err(refusal(42, 0))));
+        let bare = judge_tiny(&image, FULL & !1).unwrap();
+        assert!(matches!(bare.item(2).unwrap().fields, Some(TinyFields::Serial(None))));
+        assert!(matches!(bare.item(4), Ok(ShownTiny { tag: 0x01, place: 24, length: 3, fields: None })));
+        assert_eq!((bare.string(0), bare.string(usize::MAX), bare.string_count()), (Ok(None), Ok(None), 0));
+        let flags = judge_tiny(&[0x56, 2, 6, 0x11, 0x0F, 0x8F], FULL).unwrap().item(0).unwrap();
+        assert!(matches!(flags.fields, Some(TinyFields::Flags(0x0F))));
+        let without = tiny(&[0x11, 0]);
+        assert_eq!(judge_tiny(&without, FULL).unwrap().string(0), Err(refusal(42, 0)));
+    }
+
+    #[test]
+    fn shown_boards() {
+        let mut image = rich();
+        put(&mut image, 0x111, &[7, 9]);
+        put(&mut image, 0x164, &[1, 2, 3, 4, 5, 6, 7, 8, 9, 10, 11, 12, 4, 3]);
+        let image = seal(image, 0x1F0);
+        let numbers = |fields: Vec<Field>| -> Vec<(&str, u32)> {
+            let number = |value| if let Value::Number(number) = value { number } else { 0 };
+            fields.into_iter().map(|(label, value)| (label, number(value))).collect()
+        };
+        let board = judge_board(&image, FULL).unwrap();
+        let fpga = board.item(3).unwrap();
+        assert_eq!((&fpga.signature, fpga.place, fpga.length), (b"$FPGAnfo", 0x100, 0x15));
+        let fpga = fpga.fields.unwrap();
+        assert_eq!((fpga.major, fpga.minor, fpga.length, fpga.data), (1, 0, 0x25, Some((0x120, 5))));
+        assert_eq!(numbers(fpga.rows), [("DataType", 0), ("DevNum", 7), ("FuncNum", 9)]);
+        assert!(board.item(2).unwrap().fields.unwrap().data.is_none());
+        assert!(board.item(6).unwrap().fields.is_none());
+        assert_eq!(board.item(8).err(), Some(refusal(42, 0)));
+        assert_eq!(numbers(board.map_record(1).unwrap()),
+            [("MapLabel", 0), ("Length", 0x20), ("Offset", 0x20000), ("Address", 0)]);
+        let gpio = [("GpioLabel", 0), ("Length", 0x30), ("Offset", 0x0403_0201), ("AndData", 0x0807_0605),
+            ("OrData", 0x0C0B_0A09), ("DataSize", 4), ("DataType", 3)];
+        assert_eq!(numbers(board.gpio_record(4, 0).unwrap()), gpio);
+        for none in [board.map_record(2), board.gpio_record(4, 1), board.gpio_record(3, 0), board.gpio_record(8, 0),
+            judge_board(&image, FULL & !(1 << 10)).unwrap().gpio_record(4, 0)] {
+            assert_eq!(none.err(), Some(refusal(42, 0)));
+        }
     }
 
     #[test]
