@@ -36,10 +36,11 @@ def exported(begun):
 
 
 def independent(folder):
-    """tests/independent.rs as a library, with checks of overflow, once its own tests have passed."""
-    tests, library = os.path.join(folder, "independent_tests"), os.path.join(folder, "libindependent.a")
+    """tests/independent.rs, with checks of overflow, once its own tests have passed: the library, and the program tests/answers.rs over it."""
+    tests, library, answers = (os.path.join(folder, name) for name in ("independent_tests", "libindependent.a", "answers"))
     rustc = ["rustc", "--edition", "2021", "-D", "warnings", "-C", "opt-level=3", "-C", "overflow-checks=on", "-C", "debug-assertions=on"]
     subprocess.run([*rustc, "--test", "-o", tests, "tests/independent.rs"], check=True)
     subprocess.run([tests, "--quiet"], check=True, stdout=subprocess.DEVNULL)
     subprocess.run([*rustc, "-C", "panic=abort", "--crate-type", "staticlib", "-o", library, "tests/independent.rs"], check=True)
-    return library
+    subprocess.run([*rustc, "-C", "panic=abort", "-o", answers, "tests/answers.rs"], check=True)
+    return library, answers

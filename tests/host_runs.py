@@ -110,10 +110,10 @@ def cases(folder, library):
     print("tests: " + subprocess.run([program], stdout=subprocess.PIPE, check=True, env=ENVIRONMENT).stdout.decode().strip())
 
 
-def compare_host(folder, libraries, images, seed):
-    """The papers' cases and the comparison; how often each call answered each number."""
+def compare_host(folder, libraries, other, images, seed):
+    """The papers' cases and the comparison with the other library; how often each call answered each number."""
     cases(folder, libraries["host"])
-    return compare(build(folder, "host", "tests/host.c", libraries["host"], libraries["reader_c"], independent(folder)), images, seed)
+    return compare(build(folder, "host", "tests/host.c", libraries["host"], libraries["reader_c"], other), images, seed)
 
 
 def main():
@@ -126,7 +126,9 @@ def main():
     images, seed = map(int, sys.argv[1:])
     os.chdir(os.path.join(os.path.dirname(os.path.abspath(__file__)), ".."))
     with tempfile.TemporaryDirectory() as folder:
-        table(compare_host(folder, exported(exporting("host", "reader_c")), images, seed), (0, *TINY.rules, *BOARD.rules, 43, 44))
+        begun = exporting("host", "reader_c")
+        other, _ = independent(folder)
+        table(compare_host(folder, exported(begun), other, images, seed), (0, *TINY.rules, *BOARD.rules, 43, 44))
 
 
 if __name__ == "__main__":

@@ -22,6 +22,7 @@
 10. the judges, the choice, the name, the list and the walk exported to C answer as tests/independent.rs for 110,000 images (tests/host_runs.py and
     tests/host.c).
 """
+import collections
 import contextlib
 import io
 import itertools
@@ -38,9 +39,9 @@ sys.path.insert(0, os.path.dirname(os.path.abspath(__file__)))
 import board_images
 import board_runs
 import tiny_images
-from building import ENVIRONMENT, build, exported, exporting, fail
+from building import ENVIRONMENT, build, exported, exporting, fail, independent
 from coverage import table
-from formats import BOARD, TINY, with_fewer
+from formats import BOARD, TINY, due, with_fewer
 from host_runs import compare_host
 from upload_runs import try_upload
 
@@ -77,13 +78,21 @@ def complaint(program, given):
     return b"" if run.stdout else run.stderr
 
 
-def stored_answers(references):
-    """What the gate compares these programs with is what the references answer."""
-    for form, command, crate in ((TINY, "write", "tiny_write"), (BOARD, "answers", "board_answers"), (BOARD, "list", "board_list"),
-                                 (BOARD, "write", "board_write"), (BOARD, "choice", "choice_answers")):
-        with open("crates/%s/stdin" % crate, "rb") as given, open("crates/%s/stdout" % crate, "rb") as stored:
-            if output(references[form], command, given=given.read()) != stored.read():
-                fail("crates/%s/stdout is not what tests/reference/%s.c answers" % (crate, form.name))
+def stored_answers(references, others):
+    """What the gate compares these programs with is what the references answer; of `tiny_answers` and `board_answers`, what each of the others does."""
+    asked = [(form, command, {"tests/reference/" + source: [references[form], command]}) for form, command, source in (
+        (TINY, "write", "tiny.c"), (BOARD, "list", "board.c"), (BOARD, "write", "board_write.c"))]
+    asked += [(form, "answers", others[form]) for form in (TINY, BOARD)]
+    stored = [("%s_%s" % (form.name, command), programs) for form, command, programs in asked]
+    stored.append(("choice_answers", {"tests/reference/board_write.c": [references[BOARD], "choice"]}))
+    for crate, programs in stored:
+        with open("crates/%s/stdin" % crate, "rb") as f:
+            given = f.read()
+        with open("crates/%s/stdout" % crate, "rb") as f:
+            expected = f.read()
+        for name, program in programs.items():
+            if output(*program, given=given) != expected:
+                fail("crates/%s/stdout is not what %s answers" % (crate, name))
 
 
 def long_sample(form, name, length, listing):
@@ -172,12 +181,12 @@ def streams(form, made, seed):
     )
 
 
-def answered(ours, theirs, expected):
-    """What both sides answer to each record of a run, with what is expected of it."""
-    ours, theirs = (text.split(b"list ")[1:] for text in (ours, theirs))
-    if not len(ours) == len(theirs) == len(expected):
-        fail("%d records, %d and %d answered" % (len(expected), len(ours), len(theirs)))
-    return zip(ours, theirs, expected)
+def answered(expected, *said):
+    """What is expected of each record of a run, with what each side answers to it."""
+    sides = [text.split(b"list ")[1:] for text in said]
+    if any(len(side) != len(expected) for side in sides):
+        fail("%d records, %s answered" % (len(expected), " and ".join(str(len(side)) for side in sides)))
+    return zip(expected, *sides)
 
 
 def shown(image):
@@ -189,23 +198,31 @@ def shown(image):
     return "of %d bytes in target/different.bin" % len(image)
 
 
-def compare(form, reference, made, seed):
-    """All answers, image by image; how often each refusal number was answered, and how many were known before."""
-    counts, compared, known = {}, 0, 0
+# the call in a line of `tiny_answers` or `board_answers`, the kind of an item, and what is shown first or the refusal
+SHOWN = re.compile(rb"^(item|string|map|gpio)(?: \d+)+ (?:(?:tag|kind) (\w+) place \d+ length \d+ )?(refused \d+|serial \w+|\w+)", re.MULTILINE)
+
+
+def compare(form, others, made, seed):
+    """All answers, image by image, against each of the others; how often each refusal number was answered, how many answers there were, how many were
+    known before, and how often each thing was shown."""
+    counts, compared, known, parts = {}, 0, 0, collections.Counter()
+    programs = [[os.path.join(BIN, form.name + "_answers")], *others.values()]
     for run, expected in streams(form, made, seed):
-        ours, theirs = output(os.path.join(BIN, form.name + "_answers"), given=run), output(reference, "answers", given=run)
-        for a, b, (group, image, mask, said) in answered(ours, theirs, expected):
-            judged = a.split(b"\n")[1].decode()
-            if a != b or said != "?" and judged != said:
-                fail("list %d, image %s (%s, made to be %s):\n%s\nreference:\n%s"
-                     % (mask, shown(image), group, said, a.decode(), b.decode()))
+        said = [output(*program, given=run) for program in programs]
+        parts.update(SHOWN.findall(said[0]))
+        for (group, image, mask, wanted), ours, *answers in answered(expected, *said):
+            judged = ours.split(b"\n")[1].decode()
+            for name, theirs in zip(others, answers):
+                if ours != theirs or wanted != "?" and judged != wanted:
+                    fail("list %d, image %s (%s, made to be %s):\n%s\n%s:\n%s"
+                         % (mask, shown(image), group, wanted, ours.decode(), name, theirs.decode()))
             key = refusal(judged)
             counts[key] = counts.get(key, 0) + 1
-            for number in set(re.findall(rb"refused (4[234]) 0", a)):
+            for number in set(re.findall(rb"refused (4[234]) 0", ours)):
                 counts[int(number)] = counts.get(int(number), 0) + 1
             compared += 1
-            known += said != "?"
-    return counts, compared, known
+            known += wanted != "?"
+    return counts, compared, known, {b" ".join(filter(None, part)).decode(): times for part, times in parts.items()}
 
 
 def listings(form, reference, made):
@@ -214,18 +231,23 @@ def listings(form, reference, made):
             fail("the listings of image %s (%s) differ" % (shown(image), group))
 
 
-def compare_readers(form, reference, number, seed):
-    """The images of a format: every answer, each refusal number reached, some listings. How often each number was answered."""
+def compare_readers(form, reference, others, number, seed):
+    """The images of a format: every answer, each refusal number and all that can be shown reached, some listings. How often each number was answered."""
     made = list(itertools.islice(form.images(seed), number))
     numbers = (*form.rules, *form.late)
-    counts, compared, known = compare(form, reference, made, seed)
-    print("tests: %d %s images with two lists each, %d answered as by tests/reference/%s.c, %d of them with a judge's answer known before"
-          % (number, form.name, compared, form.name, known))
+    counts, compared, known, parts = compare(form, others, made, seed)
+    print("tests: %d %s images with two lists each, %d answered as by %s, %d of them with a judge's answer known before"
+          % (number, form.name, compared, " and by ".join(others), known))
     missing = [n for n in (0, *numbers) if not counts.get(n)]
     if missing:
         fail("no %s image was answered with %s" % (form.name, missing))
     if 2 * known < compared:
         fail("only %d answers for %s images were known before" % (known, form.name))
+    missing = sorted(due(form) - set(parts))
+    if missing:
+        fail("no answer for a %s image has %s" % (form.name, missing))
+    asked = ["%d %s" % (sum(times for part, times in parts.items() if part.split()[0] == call), call) for call in form.calls]
+    print("tests: asked by number: %s; each of %d outcomes at least %d times" % (", ".join(asked), len(due(form)), min(parts[one] for one in due(form))))
     listings(form, reference, made[:LISTED])
     print("tests: %d %s images listed as by tests/reference/%s.c" % (min(LISTED, number), form.name, form.name))
     return counts
@@ -330,7 +352,7 @@ def compare_choices(reference, number, seed):
     counts, known = {"firmware": 0, "eeprom": 0, "neither": 0}, 0
     for run, expected in pair_runs(itertools.islice(board_runs.pairs(seed), number)):
         ours, theirs = output(os.path.join(BIN, "choice_answers"), given=run), output(reference, "choice", given=run)
-        for a, b, (mask, firmware, eeprom, said) in answered(ours, theirs, expected):
+        for (mask, firmware, eeprom, said), a, b in answered(expected, ours, theirs):
             if a != b or said is not None and b"list " + a != board_runs.choice_text(mask, firmware, eeprom, said).encode():
                 with open("target/different.bin", "wb") as f:
                     f.write(board_runs.record(mask, firmware, eeprom))
@@ -345,10 +367,10 @@ def compare_choices(reference, number, seed):
         fail("of %d pairs %s were chosen, and %d answers were known before" % (number, counts, known))
 
 
-def fixed(references):
+def fixed(references, others):
     """What needs no images made: samples, stored answers, input that is too long or cannot be read."""
     print("tests: %d samples listed as stored" % samples(references))
-    stored_answers(references)
+    stored_answers(references, others)
     other_input()
     long_run(references)
     for form in (TINY, BOARD):
@@ -389,15 +411,19 @@ def main():
     begun = exporting("host", "reader_c", "crc_c")
     with tempfile.TemporaryDirectory() as folder:
         references = {form: build(folder, form.name, *("tests/reference/" + name for name in form.sources)) for form in (TINY, BOARD)}
-        jobs.extend([(compare_readers, TINY, references[TINY], number, seed), (compare_readers, BOARD, references[BOARD], boards, seed),
+        library, answers = independent(folder)
+        others = {form: {"tests/reference/%s.c" % form.name: [references[form], "answers"], "tests/independent.rs": [answers, form.name]}
+                  for form in (TINY, BOARD)}
+        jobs.extend([(compare_readers, TINY, references[TINY], others[TINY], number, seed),
+                     (compare_readers, BOARD, references[BOARD], others[BOARD], boards, seed),
                      (compare_writers, TINY, references[TINY], max(number, REQUESTS), seed),
                      (compare_writers, BOARD, references[BOARD], boards // 3, seed),
-                     (compare_choices, references[BOARD], boards // 3, seed), (fixed, references)])
+                     (compare_choices, references[BOARD], boards // 3, seed), (fixed, references, others)])
         columns = dict(zip(("tiny-reader", "board-reader", "tiny-writer", "board-writer"), run_jobs()))
         libraries = exported(begun)
         compare_crcs(folder, libraries, seed)
         try_upload(folder, libraries)
-        table({**columns, **compare_host(folder, libraries, IMAGES, seed)}, (0, *TINY.rules, *BOARD.rules, *range(40, 47)))
+        table({**columns, **compare_host(folder, libraries, library, IMAGES, seed)}, (0, *TINY.rules, *BOARD.rules, *range(40, 47)))
 
 
 main()
