@@ -64,7 +64,7 @@ impl Display for ShownTiny<'_> {
 impl Display for TinyFields<'_> {
     fn fmt(&self, f: &mut Formatter) -> fmt::Result {
         match self {
-            TinyFields::Pool(strings, place, length) => write!(f, "strings {strings} data {place} {length}"),
+            TinyFields::Pool(count, place, length) => write!(f, "strings {count} data {place} {length}"),
             TinyFields::Serial(serial) => write!(f, "serial {}", Referred(*serial)),
             TinyFields::Flags(flags) => write!(f, "flags {flags:02X}"),
             TinyFields::Address(address) => write!(f, "address {}", Hex(address)),
@@ -115,7 +115,8 @@ impl Display for ShownBoard<'_> {
 
 impl Display for BoardFields<'_> {
     fn fmt(&self, f: &mut Formatter) -> fmt::Result {
-        write!(f, " major {} minor {} Length {}{}", self.major, self.minor, self.length, Fields(&self.rows))?;
+        write!(f, " major {} minor {} Length {}", self.major, self.minor, self.length)?;
+        Fields(&self.rows).fmt(f)?;
         self.data.map_or(Ok(()), |(place, length)| write!(f, " data {place} {length}"))
     }
 }

@@ -9,8 +9,9 @@ import tiny_runs
 
 def tiny_shown():
     """Each tag known and not known, references and strings as text and undecodable."""
-    first = {0x01: ("strings",), 0x11: ("flags",), 0x60: ("address",)}
-    items = ["item %02X %s" % (tag, what) for tag in tiny_images.KNOWN for what in ("unknown", *first.get(tag, ("serial text", "serial undecodable")))]
+    first = {tag: ("serial text", "serial undecodable") for tag in tiny_images.KNOWN}
+    first.update({0x01: ("strings",), 0x11: ("flags",), 0x60: ("address",)})
+    items = ("item %02X %s" % (tag, what) for tag in tiny_images.KNOWN for what in ("unknown", *first[tag]))
     return (*items, "string text", "string undecodable")
 
 

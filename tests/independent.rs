@@ -363,7 +363,8 @@ pub fn name_tiny(image: &[u8], kinds: u32, buffer: &mut [u8]) -> Judged<usize> {
     let (Some(serial), None, Some(pool)) = (serials.next(), serials.next(), tiny.pool) else {
         return Err(refusal(44, 0));
     };
-    let text = serial.data.first().and_then(|&index| strings(pool).nth(usize::from(index)));
+    let mut strings = strings(pool);
+    let text = serial.data.first().and_then(|&index| strings.nth(usize::from(index)));
     let text = text.ok_or(refusal(44, 0))?;
     let room = buffer.get_mut(..text.len()).ok_or(refusal(43, 0))?;
     for (to, from) in room.iter_mut().zip(text) {
@@ -1261,13 +1262,13 @@ mod tests {
 
     #[test]
     fn shown_tiny() {
-        let items = [0x80, 0, 1, 0x99, 7, b'x', b'y', 0x0F, 0x27, 0x60, 1, 2, 3, 4, 5, 6, 0x10, 1, 0x20, 8, 9];
-        let image = tiny(&[&items[..], &[0x01, 3, 0x41, 0xC2, 0xC3]].concat());
+        let image = tiny(&[0x80, 0, 1, 0x99, 7, b'x', b'y', 0x0F, 0x27, 0x60, 1, 2, 3, 4, 5, 6, 0x10, 1,
+            0x20, 8, 9, 0x01, 3, 0x41, 0xC2, 0xC3]);
         let full = judge_tiny(&image, FULL).unwrap();
-        let Ok(ShownTiny { tag: 0x80, place: 3, length: 8, fields: Some(TinyFields::Identity(shown)) }) = full.item(0) else {
-            panic!()
-        };
-        assert_eq!((shown.serial.map(text), shown.part.map(text)), (Some(b"AB".to_vec()), Some(b"C".to_vec())));
+        let ShownTiny { tag, place, length, fields } = full.item(0).unwrap();
+        assert_eq!((tag, place, length), (0x80, 3, 8));
+        let Some(TinyFields::Identity(shown)) = fields else { panic!() };
+        assert_eq!([shown.serial, shown.part].map(|string| text(string.unwrap())), [&b"AB"[..], b"C"]);
         assert_eq!((major_text(shown.major), shown.minor, shown.characters), (*b"0Z", 7, *b"xy"));
         assert_eq!(shown.batch, Some(9999));
         assert!(matches!(full.item(1).unwrap().fields, Some(TinyFields::Address(&[1, 2, 3, 4, 5, 6]))));
@@ -1310,8 +1311,9 @@ mod tests {
         let gpio = [("GpioLabel", 0), ("Length", 0x30), ("Offset", 0x0403_0201), ("AndData", 0x0807_0605),
             ("OrData", 0x0C0B_0A09), ("DataSize", 4), ("DataType", 3)];
         assert_eq!(numbers(board.gpio_record(4, 0).unwrap()), gpio);
-        for none in [board.map_record(2), board.gpio_record(4, 1), board.gpio_record(3, 0), board.gpio_record(8, 0),
-            judge_board(&image, FULL & !(1 << 10)).unwrap().gpio_record(4, 0)] {
+        let fewer = judge_board(&image, FULL & !(1 << 10)).unwrap();
+        for none in [board.map_record(2), board.gpio_record(4, 1), board.gpio_record(3, 0),
+            board.gpio_record(8, 0), fewer.gpio_record(4, 0)] {
             assert_eq!(none.err(), Some(refusal(42, 0)));
         }
     }

@@ -5,18 +5,21 @@
 
 1. every sample is listed as stored beside it; input of a million bytes is listed or refused; too many requests, records past the last
    byte that is read, and a read error are met as they should be;
-2. every answer of `tiny_answers` for IMAGES tiny images, each with two lists, is the answer of tests/reference/tiny.c; and where an image
-   was made for an answer of the judge with the full list, it gets that, and with another list too unless a rule that asks the list was
-   broken. The same for `board_answers`, BOARDS board images and tests/reference/board.c;
+2. every answer of `tiny_answers` for IMAGES tiny images, each with two lists, is the answer of tests/reference/tiny.c and of
+   tests/independent.rs (by tests/answers.rs); and where an image was made for an answer of the judge with the full list, it gets that, and
+   with another list too unless a rule that asks the list was broken. The same for `board_answers`, BOARDS board images,
+   tests/reference/board.c and tests/independent.rs;
 3. `tiny_list` and `board_list` list some of them as the references do;
-4. each refusal number from 1 to 11, and 42, 43 and 44, was among the answers for tiny images; from 20 to 33, and 42, for boards;
+4. each refusal number from 1 to 11, and 42, 43 and 44, was among the answers for tiny images; from 20 to 33, and 42, for boards. Each tag
+   and each structure was shown, known and where a list can lack it not known, and strings, map records and GPIO records; each of these calls
+   by number was refused with each number that it can be (formats.py, `due`);
 5. every answer of `tiny_write` for as many requests as tiny images, and at least 20,000, is the answer of tests/reference/tiny.c; where a
    request was made for an answer, it gets that; each refusal number of the writer was among the answers, and no other. The same for
    `board_write`, a third as many requests as board images, and tests/reference/board_write.c;
 6. every answer of `choice_answers` for a third as many pairs of images as board images is the answer of tests/reference/board_write.c;
    where a pair was made for an answer, it gets that; firmware, EEPROM and neither were among the answers;
-7. what the gate compares `tiny_write`, `board_answers`, `board_list`, `board_write` and `choice_answers` with is what the references
-   answer;
+7. what the gate compares `tiny_answers`, `tiny_write`, `board_answers`, `board_list`, `board_write` and `choice_answers` with is what the
+   references answer, and tests/independent.rs where it shows the same;
 8. the CRCs exported to C are those of zlib and of a plain loop, and read nothing past either end (tests/crcs.c);
 9. the papers' cases through C (tests/cases.c), the host program and its header (tests/upload_runs.py);
 10. the judges, the choice, the name, the list and the walk exported to C answer as tests/independent.rs for 110,000 images (tests/host_runs.py and
@@ -79,7 +82,7 @@ def complaint(program, given):
 
 
 def stored_answers(references, others):
-    """What the gate compares these programs with is what the references answer; of `tiny_answers` and `board_answers`, what each of the others does."""
+    """What the gate compares these programs with is what the references answer, and each of the others of `tiny_answers` and `board_answers`."""
     asked = [(form, command, {"tests/reference/" + source: [references[form], command]}) for form, command, source in (
         (TINY, "write", "tiny.c"), (BOARD, "list", "board.c"), (BOARD, "write", "board_write.c"))]
     asked += [(form, "answers", others[form]) for form in (TINY, BOARD)]
@@ -203,8 +206,8 @@ SHOWN = re.compile(rb"^(item|string|map|gpio)(?: \d+)+ (?:(?:tag|kind) (\w+) pla
 
 
 def compare(form, others, made, seed):
-    """All answers, image by image, against each of the others; how often each refusal number was answered, how many answers there were, how many were
-    known before, and how often each thing was shown."""
+    """All answers, image by image, against each of the others. How often each refusal number was answered, how many answers there were and how many
+    were known before; and how often each outcome of the calls by number was among them."""
     counts, compared, known, parts = {}, 0, 0, collections.Counter()
     programs = [[os.path.join(BIN, form.name + "_answers")], *others.values()]
     for run, expected in streams(form, made, seed):
@@ -232,7 +235,8 @@ def listings(form, reference, made):
 
 
 def compare_readers(form, reference, others, number, seed):
-    """The images of a format: every answer, each refusal number and all that can be shown reached, some listings. How often each number was answered."""
+    """The images of a format: every answer, each refusal number and each outcome of the calls by number reached, some listings. How often each
+    number was answered."""
     made = list(itertools.islice(form.images(seed), number))
     numbers = (*form.rules, *form.late)
     counts, compared, known, parts = compare(form, others, made, seed)
@@ -246,8 +250,9 @@ def compare_readers(form, reference, others, number, seed):
     missing = sorted(due(form) - set(parts))
     if missing:
         fail("no answer for a %s image has %s" % (form.name, missing))
-    asked = ["%d %s" % (sum(times for part, times in parts.items() if part.split()[0] == call), call) for call in form.calls]
-    print("tests: asked by number: %s; each of %d outcomes at least %d times" % (", ".join(asked), len(due(form)), min(parts[one] for one in due(form))))
+    asked = ", ".join("%s %d" % (call, sum(times for part, times in parts.items() if part.split()[0] == call)) for call in form.calls)
+    least = min(parts[part] for part in due(form))
+    print("tests: asked by number: %s; each of %d outcomes that must be reached, at least %d times" % (asked, len(due(form)), least))
     listings(form, reference, made[:LISTED])
     print("tests: %d %s images listed as by tests/reference/%s.c" % (min(LISTED, number), form.name, form.name))
     return counts
