@@ -4,6 +4,8 @@ pub mod Items
 pub mod Answers
 pub mod Values
 pub mod Texts
+pub mod Shown
+pub mod NotShown
 pub mod Cases
 pub mod Examples
 pub mod laws

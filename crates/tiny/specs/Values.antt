@@ -1,8 +1,8 @@
 -- The paper's numbers and values of each answer: a refusal's number and place; the fields of an item; a text as its bytes, the end mark cleared.
 -- What the demands say of two readers or two images is said of these values. Assumes nothing.
 use Prim.Native.Nat.{ℕ}
-use mathlib.Core.List.{List, [], _∷_}
-use Rattle.octets.specs.declared.Six.{Six}
+use mathlib.Core.List.{List}
+use Rattle.octets.specs.Runs.{sixBytes}
 use Rattle.tiny_layout.specs.Strings.{textOf}
 use Rattle.tiny_layout.specs.declared.Reference.{Reference}
 use Rattle.tiny.specs.Major.{majorText}
@@ -61,14 +61,11 @@ identityValues s x =
       characters = x .characters;
     }
 
-abbrev pub bytesOf : Six → List ℕ
-bytesOf x = x .b0 ∷ x .b1 ∷ x .b2 ∷ x .b3 ∷ x .b4 ∷ x .b5 ∷ []
-
 abbrev pub fieldValues : List ℕ → Item → FieldValues
 fieldValues s (Item.Pool x) = pool (x .count) (x .bytes .place) (x .bytes .length)
 fieldValues s (Item.Serial r) = serial (referenceValue s r)
 fieldValues s (Item.Flags b) = flags b
-fieldValues s (Item.Address x) = address (bytesOf x)
+fieldValues s (Item.Address x) = address (sixBytes x)
 fieldValues s (Item.Identity x) = identity (identityValues s x)
 fieldValues s (Item.Batched x) = batched (identityValues s (x .identity)) (x .batch)
 fieldValues s Item.NotKnown = notKnown

@@ -6,6 +6,7 @@ pub mod Agree
 pub mod Alike
 pub mod Same
 pub mod Resolved
+pub mod Rows
 pub mod Shown
 pub mod Part
 pub mod Exactly

@@ -5,6 +5,7 @@ pub mod Strings
 pub mod Texts
 pub mod Along
 pub mod Tags
+pub mod Tables
 pub mod Pool
 pub mod Same
 pub mod Split

@@ -1,6 +1,6 @@
 -- What two images show of one item, where its head agrees, its data where it is known, and the bytes of the pool: the same fields, and in them the same texts,
 -- as places and as bytes. Assumes nothing.
-use Prim.Native.Nat.{ℕ, _+_, _-_, _≤_}
+use Prim.Native.Nat.{ℕ, _+_, _-_, _≤_, _<_}
 use mathlib.Core.Bool.{Bool, true, false, cond}
 use mathlib.Core.List.{List, _++_}
 use mathlib.Core.Path.{_≡_, refl, ap, ap₂, _∙_}
@@ -19,7 +19,7 @@ use Rattle.octets.specs.laws.Same.{Same, le16-same, six-same}
 use Rattle.tiny_layout.specs.Layout.{dataAt, next}
 use Rattle.tiny_layout.specs.Pool.{isKnown, poolAt}
 use Rattle.tiny_layout.specs.Strings.{strings, textOf, referenceAt, reference}
-use Rattle.tiny_layout.specs.Tags.{shapeOf, fieldBytes}
+use Rattle.tiny_layout.specs.Tags.{shapeOf, fieldBytes, indexCount}
 use Rattle.tiny_layout.specs.declared.Pool.{Pool}
 use Rattle.tiny_layout.specs.declared.Reference.{Reference}
 use Rattle.tiny_layout.specs.declared.Shape.{Shape}
@@ -66,17 +66,21 @@ module _ (s t : List ℕ) (x : Pool) (pool : Same s t (x .from) (x .to)) where
       go Nothing e = tt
 
   -- the string whose number is the byte at q
-  index-same : (q : ℕ) → byte s q ≡ byte t q → reference s x (byte s q) ≡ reference t x (byte t q)
+  pub index-same : (q : ℕ) → byte s q ≡ byte t q → reference s x (byte s q) ≡ reference t x (byte t q)
   index-same q e = reference-same s t x pool (byte s q) ∙ ap (reference t x) e
 
-  -- ---- fields from `start` on, where all up to b agree
-  module _ (start b : ℕ) (same : Same s t start b) where
+  -- the index bytes among those from one place up to another refer to the same strings
+  abbrev pub Refer : ℕ → ℕ → Type 0
+  Refer from to = (q : ℕ) → from ≤ q → q < to → reference s x (byte s q) ≡ reference t x (byte t q)
+
+  -- ---- fields from `start` on: two indexes that refer to the same, and all after them up to b agrees
+  module _ (start b : ℕ) (refer : Refer start (start + 2)) (same : Same s t (start + 2) b) where
     identity-same : start + 6 ≤ b → identityAt s x start ≡ identityAt t x start
     unfolding identityAt
     identity-same h i =
         record {
-          serial = index-same start (same start (omega arith) (omega arith)) i;
-          part = index-same (start + 1) (same (start + 1) (omega arith) (omega arith)) i;
+          serial = refer start (omega arith) (omega arith) i;
+          part = refer (start + 1) (omega arith) (omega arith) i;
           major = same (start + 2) (omega arith) (omega arith) i;
           minor = same (start + 3) (omega arith) (omega arith) i;
           characters =
@@ -88,45 +92,46 @@ module _ (s t : List ℕ) (x : Pool) (pool : Same s t (x .from) (x .to)) where
     batched-same h i =
         record {
           identity = identity-same (omega arith) i;
-          batch = le16-same s t start b same (start + 6) (omega arith) (omega arith) i;
+          batch = le16-same s t (start + 2) b same (start + 6) (omega arith) (omega arith) i;
         }
 
   -- ---- the item at p, whose head agrees
   module _ (p : ℕ) (head : Same s t p (dataAt s p)) where
-    -- its fields, where its data agree too
-    module _ (own : Same s t (dataAt s p) (next s p)) where
-      shown-same : poolShown s (poolAt s (At p)) ≡ poolShown t (poolAt t (At p))
-      unfolding poolShown
-      shown-same =
-          ap (λ (l : List (List ℕ)). record { count = length l; bytes = record { place = dataAt s p; length = next s p - dataAt s p } })
-          (texts-same s t (poolAt s (At p)) own)
-          ∙ ap₂ (λ (a b : ℕ). poolShown t (record { from = a; to = b })) (data-same s t p head) (next-same s t p head)
+    -- its data, by the row of its tag: the indexes refer to the same strings, and all after them agrees
+    abbrev pub OwnSame : Shape → Type 0
+    OwnSame a = Refer (dataAt s p) (dataAt s p + indexCount a) × Same s t (dataAt s p + indexCount a) (next s p)
 
-      -- what is read where the data begin
-      moved : {A : Type 0} (f : ℕ → A) → f (dataAt s p) ≡ f (dataAt t p)
-      moved f = ap f (data-same s t p head)
+    shown-same : Same s t (dataAt s p) (next s p) → poolShown s (poolAt s (At p)) ≡ poolShown t (poolAt t (At p))
+    unfolding poolShown
+    shown-same own =
+        ap (λ (l : List (List ℕ)). record { count = length l; bytes = record { place = dataAt s p; length = next s p - dataAt s p } })
+        (texts-same s t (poolAt s (At p)) own)
+        ∙ ap₂ (λ (a b : ℕ). poolShown t (record { from = a; to = b })) (data-same s t p head) (next-same s t p head)
 
-      fields-same : (a : Shape) → dataAt s p + fieldBytes a ≤ next s p → fieldsAt s x a p ≡ fieldsAt t x a p
-      fields-same Shape.Pool h = ap Item.Pool shown-same
-      fields-same Shape.Serial h =
-          ap Item.Serial (index-same (dataAt s p) (own (dataAt s p) (omega arith) (omega arith)))
-          ∙ moved (λ q. Item.Serial (reference t x (byte t q)))
-      fields-same Shape.Flags h =
-          ap Item.Flags (own (dataAt s p) (omega arith) (omega arith))
-          ∙ moved (λ q. Item.Flags (byte t q))
-      fields-same Shape.Address h =
-          ap Item.Address (six-same s t (dataAt s p) (next s p) own (dataAt s p) (omega arith) h)
-          ∙ moved (λ q. Item.Address (sixAt t q))
-      fields-same Shape.Identity h =
-          ap Item.Identity (identity-same (dataAt s p) (next s p) own h)
-          ∙ moved (λ q. Item.Identity (identityAt t x q))
-      fields-same Shape.Batched h =
-          ap Item.Batched (batched-same (dataAt s p) (next s p) own h)
-          ∙ moved (λ q. Item.Batched (batchedAt t x q))
-      fields-same Shape.Other h = refl
+    -- what is read where the data begin
+    moved : {A : Type 0} (f : ℕ → A) → f (dataAt s p) ≡ f (dataAt t p)
+    moved f = ap f (data-same s t p head)
+
+    -- a row without an index: all its data agree
+    whole : (a : Shape) → indexCount a ≡ 0 → OwnSame a → Same s t (dataAt s p) (next s p)
+    whole a none own q h l = own .1 q (omega arith) l
+
+    fields-same : (a : Shape) → dataAt s p + fieldBytes a ≤ next s p → OwnSame a → fieldsAt s x a p ≡ fieldsAt t x a p
+    fields-same Shape.Pool h own = ap Item.Pool (shown-same (whole Shape.Pool refl own))
+    fields-same Shape.Serial h own =
+        ap Item.Serial (own .0 (dataAt s p) (omega arith) (omega arith)) ∙ moved (λ q. Item.Serial (reference t x (byte t q)))
+    fields-same Shape.Flags h own =
+        ap Item.Flags (whole Shape.Flags refl own (dataAt s p) (omega arith) (omega arith)) ∙ moved (λ q. Item.Flags (byte t q))
+    fields-same Shape.Address h own =
+        ap Item.Address (six-same s t (dataAt s p) (next s p) (whole Shape.Address refl own) (dataAt s p) (omega arith) h) ∙ moved (λ q. Item.Address (sixAt t q))
+    fields-same Shape.Identity h own =
+        ap Item.Identity (identity-same (dataAt s p) (next s p) (own .0) (own .1) h) ∙ moved (λ q. Item.Identity (identityAt t x q))
+    fields-same Shape.Batched h own =
+        ap Item.Batched (batched-same (dataAt s p) (next s p) (own .0) (own .1) h) ∙ moved (λ q. Item.Batched (batchedAt t x q))
+    fields-same Shape.Other h own = refl
 
     -- the data need agree only where it is known
-    pub item-same : (k : Kinds) → (isKnown k s p ≡ true → Same s t (dataAt s p) (next s p)) → itemAt k s x p ≡ itemAt k t x p
+    pub item-same : (k : Kinds) → (isKnown k s p ≡ true → OwnSame (shapeOf (byte s p))) → itemAt k s x p ≡ itemAt k t x p
     unfolding itemAt
     item-same k own i =
         record {
@@ -140,7 +145,7 @@ module _ (s t : List ℕ) (x : Pool) (pool : Same s t (x .from) (x .to)) where
       where
         go : (b : Bool) → isKnown k s p ≡ b
             → cond b (fieldsAt s x (shapeOf (byte s p)) p) Item.NotKnown ≡ cond b (fieldsAt t x (shapeOf (byte s p)) p) Item.NotKnown
-        go true e = fields-same (own e) (shapeOf (byte s p)) (fields-within s p)
+        go true e = fields-same (shapeOf (byte s p)) (fields-within s p) (own e)
         go false e = refl
 
   -- ---- the values of what the first image shows

@@ -1,8 +1,7 @@
--- Two images of one length that differ only inside items that the list does not know and in the check byte: where the first is accepted, both have the same
--- items and the same pool, and show the same items, strings and name. So two accepted images have the same count and get the same answers. Each byte of a
--- head lies outside the data of every item, each byte of a known item outside the data of those not known, and all items before the check byte.
--- Assumes nothing.
-use Prim.Native.Nat.{ℕ, _≤_, _<_}
+-- Two images of one length that differ in no byte that is shown: where the first is accepted, both have the same items and the same pool, and show the same
+-- items, strings and name. So two accepted images have the same count and get the same answers. Each byte of a head and of a known item past its indexes is
+-- shown, whatever item it might lie in; and an index that is not shown refers to nothing. Assumes nothing.
+use Prim.Native.Nat.{ℕ, _+_, _≤_, _<_}
 use mathlib.Core.Bool.{Bool, true, false, cond, _&&_, false≢true}
 use mathlib.Core.List.{List}
 use mathlib.Core.Logic.{_⊎_, inl, inr}
@@ -11,7 +10,6 @@ use native.Mathlib.Omega.{arith}
 use lib.Dec.{eqb}
 use lib.ListN.{length}
 use Rattle.chain.specs.All.{All}
-use Rattle.chain.specs.Inside.{Inside}
 use Rattle.chain.specs.Keep.{keep, only}
 use Rattle.chain.specs.Nth.{nth}
 use Rattle.chain.specs.declared.Found.{Found}
@@ -28,43 +26,37 @@ use Rattle.octets.specs.laws.Same.{Same}
 use Rattle.tiny_layout.specs.Layout.{total, checkPlace, dataLength, dataAt, next, items}
 use Rattle.tiny_layout.specs.Pool.{isKnown, pool}
 use Rattle.tiny_layout.specs.Strings.{reference}
+use Rattle.tiny_layout.specs.Tags.{shapeOf, indexCount}
 use Rattle.tiny_layout.specs.declared.Pool.{Pool}
 use Rattle.tiny_layout.specs.declared.Reference.{Reference}
 use Rattle.tiny_layout.specs.laws.Layout.{data-after, data-within, next-grows}
 use Rattle.tiny_layout.specs.laws.Pool.{pool-view, known-holds}
 use Rattle.tiny_layout.specs.laws.Same.{tag-same, length-same, data-same, next-same, items-agree, pool-agree, reference-same}
+use Rattle.tiny_layout.specs.laws.Tags.{fields-within, indexes-within}
 use Rattle.tiny_rules.specs.Judged.{judged}
 use Rattle.tiny_rules.specs.laws.Accepted.{accepted-count, items-fit}
 use Rattle.tiny.specs.Answers.{numbered, itemIf, itemNumbered, stringIf, stringNumbered, isSerial, serials, serialOf, copied, nameAt, nameIn, nameIf, nameOf}
 use Rattle.tiny.specs.Items.{itemAt}
+use Rattle.tiny.specs.NotShown.{InCheck, InsideUnknown, InIndex, NotShown, check, unknown, index}
 use Rattle.tiny.specs.Values.{itemValues, itemSaid, stringSaid}
 use Rattle.tiny.specs.declared.ItemAnswer.{ItemAnswer}
 use Rattle.tiny.specs.declared.ShownItem.{ShownItem}
 use Rattle.tiny.specs.declared.StringAnswer.{StringAnswer}
-use Rattle.tiny.specs.laws.Agree.{SameText, said-same, copied-same, reference-text, item-same, item-values}
+use Rattle.tiny.specs.laws.Agree.{SameText, said-same, copied-same, reference-text, index-same, item-same, item-values}
+use Rattle.tiny.specs.laws.Resolved.{reference-unlisted}
 use Rattle.tiny.specs.laws.Serials.{only-serial, serial-shown}
 use Rattle.tiny.specs.laws.Strings.{asString, string-by-reference}
 use Rattle.verdict.specs.Said.{says}
 use Rattle.verdict.specs.declared.Judged.the-variants.{Accepted}
 
--- ---- the premise, in the paper's words
--- the place is that of the check byte
-abbrev pub InCheck : List ℕ → ℕ → Type 0
-InCheck s q = q ≡ checkPlace s
-
 -- item i starts at p
 abbrev pub Stands : List ℕ → ℕ → ℕ → Type 0
 Stands s i p = nth (items s) i ≡ At p
 
--- the place lies "inside" an item that the list does not know: in "its data: past the tag and length byte"
-abbrev pub InsideUnknown : Kinds → List ℕ → ℕ → Type 0
-InsideUnknown k s q = Inside (items s) (λ p. isKnown k s p ≡ false) (dataAt s) (next s) q
-
--- "two .. images of one length that differ only inside items that it does not know and in their check fields". "An image's length is L ..; what is lent
--- past it may differ."
+-- two images of one length that differ in no byte that is shown. "An image's length is L ..; what is lent past it may differ."
 pub record Alike (k : Kinds) (s t : List ℕ) : Type 0 where
   pub length : total s ≡ total t
-  pub bytes : (q : ℕ) → q < total s → (byte s q ≡ byte t q) ⊎ (InCheck s q ⊎ InsideUnknown k s q)
+  pub bytes : (q : ℕ) → q < total s → (byte s q ≡ byte t q) ⊎ NotShown k s q
 
 module _ (k : Kinds) (s t : List ℕ) (c : ℕ) (e : judged k s ≡ Accepted c) (alike : Alike k s t) where
   -- ---- the bytes of an item
@@ -72,30 +64,45 @@ module _ (k : Kinds) (s t : List ℕ) (c : ℕ) (e : judged k s ≡ Accepted c) 
   fit : (i p : ℕ) → Stands s i p → next s p ≤ checkPlace s
   fit i p at = nth-all (λ q. (3 ≤ q) × (next s q ≤ checkPlace s)) (items s) i p (items-fit k s c e) at .1
 
-  -- where a byte of it lies inside one that is not known, that is itself
-  own : (i p q : ℕ) → Stands s i p → p ≤ q → q < next s p → (u : InsideUnknown k s q) → u .place ≡ p
-  own =
-      inside-own (next s) (checkPlace s) (next-grows s) 3 (λ p. isKnown k s p ≡ false) (dataAt s) (next s) (λ p. omega (arith, data-after s p)) (λ p. omega arith)
+  -- a byte of it that is not shown lies inside it, where it is not known, or is one of its index bytes
+  abbrev Own : ℕ → ℕ → Type 0
+  Own p q = ((isKnown k s p ≡ false) × (dataAt s p ≤ q))
+      ⊎ ((listed k (Tag 0x01) ≡ false) × (isKnown k s p ≡ true) × (dataAt s p ≤ q) × (q < dataAt s p + indexCount (shapeOf (byte s p))))
 
-  -- so a byte of it agrees, unless it lies inside this very item and that is not known
-  outside : (i p q : ℕ) → Stands s i p → p ≤ q → q < next s p → ((u : InsideUnknown k s q) → u .place ≡ p → ⊥) → byte s q ≡ byte t q
-  outside i p q at a b never = go (alike .bytes q (omega (arith, b, fit i p at)))
-    where
-      go : (byte s q ≡ byte t q) ⊎ (InCheck s q ⊎ InsideUnknown k s q) → byte s q ≡ byte t q
-      go (inl d) = d
-      go (inr (inl h)) = absurd (omega (arith, b, h, fit i p at))
-      go (inr (inr u)) = absurd (never u (own i p q at a b u))
+  own : (i p q : ℕ) → Stands s i p → p ≤ q → q < next s p → NotShown k s q → Own p q
+  own i p q at a b (check h) = absurd (omega (arith, b, h, fit i p at))
+  own i p q at a b (unknown u) =
+      let z : u .place ≡ p = inside-own (next s) (checkPlace s) (next-grows s) 3 (λ p. isKnown k s p ≡ false) (dataAt s) (next s)
+      (λ p. omega (arith, data-after s p)) (λ p. omega arith) i p q at a b u in
+      subst (λ (x : ℕ). Own x q) z (inl (u .property, u .past))
+  own i p q at a b (index off u) =
+      let z : u .place ≡ p = inside-own (next s) (checkPlace s) (next-grows s) 3 (λ p. isKnown k s p ≡ true) (dataAt s)
+      (λ p. dataAt s p + indexCount (shapeOf (byte s p))) (λ p. omega (arith, data-after s p))
+      (λ p. omega (arith, fields-within s p, indexes-within (shapeOf (byte s p)))) i p q at a b u in
+      subst (λ (x : ℕ). Own x q) z (inr (off, u .property, u .past, u .before))
+
+  -- so a byte of it agrees, or is such a one
+  outside : (i p q : ℕ) → Stands s i p → p ≤ q → q < next s p → (byte s q ≡ byte t q) ⊎ Own p q
+  outside i p q at a b =
+      elim (alike .bytes q (omega (arith, b, fit i p at))) [ inl d ↦ inl d | inr h ↦ inr (own i p q at a b h) ]
 
   -- the head agrees
   pub head-alike : (i p : ℕ) → Stands s i p → Same s t p (dataAt s p)
   head-alike i p at q a b =
-      outside i p q at a (omega (arith, b, data-within s p))
-      (λ u d. omega (arith, b, u .past, ap (dataAt s) d))
+      elim (outside i p q at a (omega (arith, b, data-within s p))) [
+        | inl d ↦ d
+        | inr (inl h) ↦ absurd (omega (arith, b, h .1))
+        | inr (inr h) ↦ absurd (omega (arith, b, h .2))
+      ]
 
-  -- and so do the data of a known item
-  pub data-alike : (i p : ℕ) → Stands s i p → isKnown k s p ≡ true → Same s t (dataAt s p) (next s p)
+  -- and so do the data of a known item, past the indexes
+  pub data-alike : (i p : ℕ) → Stands s i p → isKnown k s p ≡ true → Same s t (dataAt s p + indexCount (shapeOf (byte s p))) (next s p)
   data-alike i p at known q a b =
-      outside i p q at (omega (arith, a, data-after s p)) b (λ u d. false≢true (sym (u .property) ∙ ap (isKnown k s) d ∙ known))
+      elim (outside i p q at (omega (arith, a, data-after s p)) b) [
+        | inl d ↦ d
+        | inr (inl h) ↦ absurd (false≢true (sym (h .0) ∙ known))
+        | inr (inr h) ↦ absurd (omega (arith, a, h .3))
+      ]
 
   -- ---- the same items, and the same pool
   heads : All (λ p. Same s t p (dataAt s p)) (items s)
@@ -109,12 +116,15 @@ module _ (k : Kinds) (s t : List ℕ) (c : ℕ) (e : judged k s ≡ Accepted c) 
 
   -- the pool is a known item, so its bytes agree
   pool-bytes : Same s t (pool k s .from) (pool k s .to)
+  unfolding shapeOf
   pool-bytes =
       pool-view k s (λ x. Same s t (x .from) (x .to)) (λ q a b. absurd (omega arith))
       (λ p f _ _ mark tag.
-      known-holds k s 0x01 p (λ q. isKnown k s q ≡ true → Same s t (dataAt s q) (next s q))
-      (all-of-nth (λ q. isKnown k s q ≡ true → Same s t (dataAt s q) (next s q)) (items s) data-alike) f .2
-      (ap (λ (b : ℕ). listed k (Tag b)) tag ∙ mark))
+      let w = known-holds k s 0x01 p Whole (all-of-nth Whole (items s) data-alike) f .2 (ap (λ (b : ℕ). listed k (Tag b)) tag ∙ mark) in
+      λ q a b. w q (omega (arith, a, ap (λ (b : ℕ). indexCount (shapeOf b)) tag)) b)
+    where
+      Whole : ℕ → Type 0
+      Whole q = isKnown k s q ≡ true → Same s t (dataAt s q + indexCount (shapeOf (byte s q))) (next s q)
 
   -- ---- at the place of an item
   pub tag-alike : (i p : ℕ) → Stands s i p → byte s p ≡ byte t p
@@ -126,10 +136,24 @@ module _ (k : Kinds) (s t : List ℕ) (c : ℕ) (e : judged k s ≡ Accepted c) 
   pub known-alike : (i p : ℕ) → Stands s i p → isKnown k s p ≡ isKnown k t p
   known-alike i p at = ap (λ (tag : ℕ). listed k (Tag tag)) (tag-alike i p at)
 
+  -- an index byte that differs refers to nothing, in both: 01 is not on the list
+  refers-alike : (i p q : ℕ) → Stands s i p → p ≤ q → q < next s p → isKnown k s p ≡ true → reference s (pool k s) (byte s q) ≡ reference t (pool k s) (byte t q)
+  refers-alike i p q at a b known =
+      elim (outside i p q at a b) [
+        | inl d ↦ index-same s t (pool k s) pool-bytes q d
+        | inr (inl h) ↦ absurd (false≢true (sym (h .0) ∙ known))
+        | inr (inr h) ↦ reference-unlisted k s (h .0) (byte s q) ∙ sym (ap (λ (x : Pool). reference t x (byte t q)) pool-alike ∙ reference-unlisted k t (h .0) (byte t q))
+      ]
+
   -- what is shown of it, texts as places
   pub item-alike : (i p : ℕ) → Stands s i p → itemAt k s (pool k s) p ≡ itemAt k t (pool k t) p
   item-alike i p at =
-      item-same s t (pool k s) pool-bytes p (head-alike i p at) k (data-alike i p at) ∙ ap (λ (x : Pool). itemAt k t x p) pool-alike
+      item-same s t (pool k s) pool-bytes p (head-alike i p at) k
+      (λ known. (
+        λ q a b. refers-alike i p q at (omega (arith, a, data-after s p)) (omega (arith, b, fields-within s p, indexes-within (shapeOf (byte s p)))) known,
+        data-alike i p at known,
+      ))
+      ∙ ap (λ (x : Pool). itemAt k t x p) pool-alike
 
   -- and texts as bytes
   pub values-alike : (i p : ℕ) → Stands s i p → itemValues s (itemAt k s (pool k s) p) ≡ itemValues t (itemAt k t (pool k t) p)
@@ -207,10 +231,24 @@ module _ (k : Kinds) (s t : List ℕ) (c : ℕ) (e : judged k s ≡ Accepted c) 
             before = omega (arith, u .before, next-same s t (u .place) head);
           }
 
-      go : (q : ℕ) → (byte s q ≡ byte t q) ⊎ (InCheck s q ⊎ InsideUnknown k s q) → (byte t q ≡ byte s q) ⊎ (InCheck t q ⊎ InsideUnknown k t q)
+      indexed : (q : ℕ) → InIndex k s q → InIndex k t q
+      indexed q u =
+          let p : ℕ = u .place in
+          let head : Same s t p (dataAt s p) = head-alike (u .number) p (u .stands) in
+          record {
+            number = u .number;
+            place = p;
+            stands = ap (λ (l : List ℕ). nth l (u .number)) (sym items-alike) ∙ u .stands;
+            property = sym (known-alike (u .number) p (u .stands)) ∙ u .property;
+            past = omega (arith, u .past, data-same s t p head);
+            before = omega (arith, u .before, data-same s t p head, ap (λ (b : ℕ). indexCount (shapeOf b)) (tag-same s t p head));
+          }
+
+      go : (q : ℕ) → (byte s q ≡ byte t q) ⊎ NotShown k s q → (byte t q ≡ byte s q) ⊎ NotShown k t q
       go q (inl d) = inl (sym d)
-      go q (inr (inl h)) = inr (inl (omega (arith, h, alike .length)))
-      go q (inr (inr u)) = inr (inr (inside q u))
+      go q (inr (check h)) = inr (check (omega (arith, h, alike .length)))
+      go q (inr (unknown u)) = inr (unknown (inside q u))
+      go q (inr (index off u)) = inr (index off (indexed q u))
 
 -- ---- both are accepted: the same count, and the same answer to every question
 module _ (k : Kinds) (s t : List ℕ) (c d : ℕ) (e : judged k s ≡ Accepted c) (f : judged k t ≡ Accepted d) (alike : Alike k s t) where

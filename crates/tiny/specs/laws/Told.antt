@@ -28,21 +28,27 @@ use Rattle.crc.specs.Crc8.{crc8}
 use Rattle.kinds.specs.Kinds.{listed}
 use Rattle.kinds.specs.declared.Kind.the-variants.{Tag}
 use Rattle.kinds.specs.declared.Kinds.{Kinds}
-use Rattle.octets.specs.Bytes.{byte, Octets, run, le16}
-use Rattle.octets.specs.Runs.{sixAt}
+use Rattle.octets.specs.Bytes.{byte, Octets, run}
+use Rattle.octets.specs.Rows.{Value, shownRows}
 use Rattle.octets.specs.laws.Bytes.{length-run, byte-run, run-octets}
-use Rattle.octets.specs.laws.Same.{Same, take-same}
-use Rattle.octets.specs.laws.Told.{parts-same, one, two, run-told}
+use Rattle.octets.specs.laws.Rows.{rows-told}
+use Rattle.octets.specs.laws.Same.{Same}
+use Rattle.octets.specs.laws.Told.{run-told}
 use Rattle.tiny.specs.Answers.{numbered, itemIf, itemNumbered, stringNumbered}
 use Rattle.tiny.specs.Items.{identityAt, batchedAt, poolShown, fieldsAt, itemAt}
-use Rattle.tiny.specs.Values as values
+use Rattle.tiny.specs.NotShown.{InIndex, NotShown, check, unknown}
+use Rattle.tiny.specs.Shown.{stringValue, labelled, itemShown}
+use Rattle.tiny.specs.Texts.{referred}
 use Rattle.tiny.specs.Values.{itemValues, fieldValues, itemSaid, stringSaid}
 use Rattle.tiny.specs.declared.Item.{Item}
 use Rattle.tiny.specs.laws.Exactly.{Filled, listed-filled}
+use Rattle.tiny.specs.laws.Rows.{known-rows}
 use Rattle.tiny.specs.laws.Resolved.{reference-text, string-text}
 use Rattle.tiny_layout.specs.Layout.{total, checkPlace, isLong, headSize, dataLength, dataAt, next, items}
 use Rattle.tiny_layout.specs.Pool.{isKnown, isOf, knownOf, poolAt, pool}
 use Rattle.tiny_layout.specs.Strings.{isMarked, split, texts, stringEnd, strings, spanAt, referenceAt, reference}
+use Rattle.tiny_layout.specs.Tables.{table}
+use Rattle.tiny_layout.specs.laws.Tables.{gapless, hidden}
 use Rattle.tiny_layout.specs.Tags.{shapeOf, indexCount, fieldBytes}
 use Rattle.tiny_layout.specs.declared.Pool as layout
 use Rattle.tiny_layout.specs.declared.Reference.{Reference}
@@ -143,53 +149,25 @@ module _ (k : Kinds) (s t : List ℕ) (good : Octets s) (fine : Octets t) (c d :
         ∙ ap (λ (x : ℕ). fieldValues t (cond (listed k (Tag x)) (fieldsAt t (pool k t) (shapeOf x) p) Item.NotKnown)) (sym tags)
         ∙ ap (λ (b : Bool). fieldValues t (cond b (fieldsAt t (pool k t) (shapeOf (byte s p)) p) Item.NotKnown)) on
 
-    -- the fields past the indexes
-    abbrev From : ℕ → ℕ → Type 0
-    From a b = Same s t (dataAt s p + a) (dataAt s p + b)
+    -- the rows of its tag: every byte of them agrees, or is an index
+    rows-shown : itemShown k s p ≡ itemShown k t p
+    unfolding itemAt
+    rows-shown =
+        sym (known-rows k s p on) ∙ ap (λ v. labelled (v .fields)) item ∙ known-rows k t p (ap (λ (x : ℕ). listed k (Tag x)) (sym tags) ∙ on)
 
-    moved : (o : ℕ) → byte s (dataAt s p + o) ≡ byte t (dataAt t p + o) → byte s (dataAt s p + o) ≡ byte t (dataAt s p + o)
-    moved o z = z ∙ ap (λ (x : ℕ). byte t (x + o)) (sym datas)
-
-    address-told : values.bytesOf (sixAt s (dataAt s p)) ≡ values.bytesOf (sixAt t (dataAt t p)) → From 0 6
-    unfolding sixAt tab
-    address-told z q h l =
-        run-told s t (dataAt s p) 6 (z ∙ ap (λ (x : ℕ). run t x 6) (sym datas)) q (omega arith) (omega arith)
-
-    revision-told : values.identityValues s (identityAt s (pool k s) (dataAt s p)) ≡ values.identityValues t (identityAt t (pool k t) (dataAt t p)) → From 2 6
-    unfolding identityAt
-    revision-told z =
-        parts-same s t (dataAt s p + 2) (dataAt s p + 6)
-        (one s t (dataAt s p + 2) (moved 2 (ap (λ x. x .major) z))
-        ∷ one s t (dataAt s p + 3) (moved 3 (ap (λ x. x .minor) z))
-        ∷ one s t (dataAt s p + 4) (moved 4 (ap (λ x. x .characters .first) z))
-        ∷ one s t (dataAt s p + 5) (moved 5 (ap (λ x. x .characters .second) z))
-        ∷ [])
-        (omega arith, (omega arith, (omega arith, (omega arith, omega arith))))
-
-    batch-told : values.identityValues s (identityAt s (pool k s) (dataAt s p)) ≡ values.identityValues t (identityAt t (pool k t) (dataAt t p))
-        → le16 s (dataAt s p + 6) ≡ le16 t (dataAt t p + 6) → From 2 8
-    batch-told z b q h l =
-        elim (below q (dataAt s p + 6)) [
-          | inl x ↦ revision-told z q h x
-          | inr x ↦ two s t good fine (dataAt s p + 6) (b ∙ ap (λ (x : ℕ). le16 t (x + 6)) (sym datas)) .same q x (omega arith)
+    fields-told : (q : ℕ) → dataAt s p ≤ q → q < dataAt s p + fieldBytes (shapeOf (byte s p)) → (byte s q ≡ byte t q) ⊎ (q < dataAt s p + indexCount (shapeOf (byte s p)))
+    fields-told q a b =
+        elim (rows-told (look s) (look t) s t good fine (dataAt s p) (dataLength s p) (dataLength t p) q 0 (fieldBytes (shapeOf (byte s p)))
+        (table (shapeOf (byte s p))) (gapless (shapeOf (byte s p))) (rows-shown ∙ moved) (omega arith) b) [
+          | inl x ↦ inl x
+          | inr x ↦ inr (hidden (dataAt s p) q (shapeOf (byte s p)) x)
         ]
+      where
+        look : List ℕ → ℕ → Value
+        look x n = stringValue (referred k x n)
 
-    fields-told : (a : Shape) → fieldValues s (fieldsAt s (pool k s) a p) ≡ fieldValues t (fieldsAt t (pool k t) a p) → From (indexCount a) (fieldBytes a)
-    unfolding batchedAt
-    fields-told Shape.Pool f = λ q h l. absurd (omega arith)
-    fields-told Shape.Serial f = λ q h l. absurd (omega arith)
-    fields-told Shape.Flags f =
-        let z : byte s (dataAt s p) ≡ byte t (dataAt t p) = cc in
-        parts-same s t (dataAt s p + 0) (dataAt s p + 1) (one s t (dataAt s p) (z ∙ ap (byte t) (sym datas)) ∷ []) (omega arith, omega arith)
-    fields-told Shape.Address f = address-told (let z : values.bytesOf (sixAt s (dataAt s p)) ≡ values.bytesOf (sixAt t (dataAt t p)) = cc in z)
-    fields-told Shape.Identity f =
-        let z : values.identityValues s (identityAt s (pool k s) (dataAt s p)) ≡ values.identityValues t (identityAt t (pool k t) (dataAt t p)) = cc in
-        revision-told z
-    fields-told Shape.Batched f =
-        let z : values.identityValues s (identityAt s (pool k s) (dataAt s p)) ≡ values.identityValues t (identityAt t (pool k t) (dataAt t p)) = cc in
-        let b : le16 s (dataAt s p + 6) ≡ le16 t (dataAt t p + 6) = cc in
-        batch-told z b
-    fields-told Shape.Other f = λ q h l. absurd (omega arith)
+        moved : itemShown k t p ≡ shownRows (look t) t (dataAt s p) (dataLength t p) (table (shapeOf (byte s p)))
+        moved = ap₂ (λ (d b : ℕ). shownRows (look t) t d (dataLength t p) (table (shapeOf b))) (sym datas) (sym tags)
 
     -- ---- the pool
     module _ (tag : byte s p ≡ 0x01) (strings : (n : ℕ) → stringSaid s (stringNumbered k s n) ≡ stringSaid t (stringNumbered k t n)) where
@@ -257,22 +235,8 @@ module _ (k : Kinds) (s t : List ℕ) (good : Octets s) (fine : Octets t) (c d :
     data-told strings q a b =
         elim some-row [
           | inl z ↦ inl (pool-told z strings q a b)
-          | inr z ↦ elim (below q (dataAt s p + indexCount (shapeOf (byte s p)))) [
-            | inl x ↦ inr x
-            | inr x ↦ inl (fields-told (shapeOf (byte s p)) shown q x (omega (arith, b, data-end z)))
-          ]
+          | inr z ↦ fields-told q a (omega (arith, b, data-end z))
         ]
-
--- ---- the claim, over the answers of the format
--- the index bytes of a known item: they are shown as texts, and two strings of a pool may have one text. (Request R-7 shows the place as well; then only where
--- 01 is not on the list.)
-abbrev pub InIndex : Kinds → List ℕ → ℕ → Type 0
-InIndex k s q = Inside (items s) (λ p. isKnown k s p ≡ true) (dataAt s) (λ p. dataAt s p + indexCount (shapeOf (byte s p))) q
-
-pub data NotShown (k : Kinds) (s : List ℕ) (q : ℕ) : Type 0 where
-  check : q ≡ checkPlace s → NotShown k s q
-  unknown : Inside (items s) (λ p. isKnown k s p ≡ false) (dataAt s) (next s) q → NotShown k s q
-  index : InIndex k s q → NotShown k s q
 
 abbrev Shows : Kinds → List ℕ → List ℕ → Type 0
 Shows k s t = (i : ℕ) → itemSaid s (itemNumbered k s i) ≡ itemSaid t (itemNumbered k t i)
@@ -323,7 +287,7 @@ module _ (k : Kinds) (s t : List ℕ) (good : Octets s) (fine : Octets t) (c d :
         total-within k t d g .0,
       )
 
-  inside : (q : ℕ) → 3 ≤ q → q < checkPlace s → (byte s q ≡ byte t q) ⊎ NotShown k s q
+  inside : (q : ℕ) → 3 ≤ q → q < checkPlace s → (byte s q ≡ byte t q) ⊎ (NotShown k s q ⊎ InIndex k s q)
   inside q h l =
       let w : In (next s) (items s) q = chain-covers (next s) (checkPlace s) (next-grows s) 3 q h l in
       let p : ℕ = w .place in
@@ -334,150 +298,20 @@ module _ (k : Kinds) (s t : List ℕ) (good : Octets s) (fine : Octets t) (c d :
       ]
     where
       go : (i p : ℕ) → nth (items s) i ≡ At p → nth (items t) i ≡ At p → itemValues s (itemAt k s (pool k s) p) ≡ itemValues t (itemAt k t (pool k t) p)
-          → q < next s p → dataAt s p ≤ q → (b : Bool) → isKnown k s p ≡ b → (byte s q ≡ byte t q) ⊎ NotShown k s q
+          → q < next s p → dataAt s p ≤ q → (b : Bool) → isKnown k s p ≡ b → (byte s q ≡ byte t q) ⊎ (NotShown k s q ⊎ InIndex k s q)
       go i p at too item b a true on =
           elim (data-told k s t good fine c d e g i p at too item on strings q a b) [
             | inl z ↦ inl z
-            | inr z ↦ inr (index (record { number = i; place = p; stands = at; property = on; past = a; before = z }))
+            | inr z ↦ inr (inr (record { number = i; place = p; stands = at; property = on; past = a; before = z }))
           ]
-      go i p at too item b a false off = inr (unknown (record { number = i; place = p; stands = at; property = off; past = a; before = b }))
+      go i p at too item b a false off = inr (inl (unknown (record { number = i; place = p; stands = at; property = off; past = a; before = b })))
 
-  pub complete-tiny : (q : ℕ) → q < total s → (byte s q ≡ byte t q) ⊎ NotShown k s q
+  pub complete-tiny : (q : ℕ) → q < total s → (byte s q ≡ byte t q) ⊎ (NotShown k s q ⊎ InIndex k s q)
   complete-tiny zero h = inl (head-accepted k s c e .0 ∙ sym (head-accepted k t d g .0))
   complete-tiny (suc zero) h = inl (head-accepted k s c e .1 ∙ sym (head-accepted k t d g .1))
   complete-tiny (suc (suc zero)) h = inl totals
   complete-tiny (suc (suc (suc q))) h =
       elim (below (suc (suc (suc q))) (checkPlace s)) [
         | inl x ↦ inside (suc (suc (suc q))) (omega arith) x
-        | inr x ↦ inr (check (omega arith))
+        | inr x ↦ inr (inl (check (omega arith)))
       ]
-
--- ---- request R-7: a reference shows its place, and so its number
--- the places of a chain differ
-same-number : (next : ℕ → ℕ) (end : ℕ) → ((p : ℕ) → p < next p) → (p n m r : ℕ) → nth (chain next end p) n ≡ At r → nth (chain next end p) m ≡ At r → n ≡ m
-same-number next end grows p n m r a b =
-    elim (below n m) [
-      | inl h ↦ absurd (omega (arith, places-rise next end grows p n m h (here m b .0), here n a .1, here m b .1))
-      | inr h ↦ elim (below m n) [
-        | inl l ↦ absurd (omega (arith, places-rise next end grows p m n l (here n a .0), here n a .1, here m b .1))
-        | inr l ↦ omega arith
-      ]
-    ]
-  where
-    here : (j : ℕ) → nth (chain next end p) j ≡ At r → (j < length (chain next end p)) × (getD (chain next end p) j 0 ≡ r)
-    here j d =
-        elim (below j (length (chain next end p))) [
-          | inl h ↦ (h, let z = sym (nth-below (chain next end p) j h) ∙ d in cc)
-          | inr h ↦ absurd (at-nothing (sym d ∙ nth-past (chain next end p) j h))
-        ]
-
--- references that show one place have one number
-one-index : (s t : List ℕ) (x : layout.Pool) → Same s t (x .from) (x .to) → (n m : ℕ) → n < length (texts s x) → reference s x n ≡ reference t x m → n ≡ m
-unfolding reference
-one-index s t x same n m h e =
-    go (nth (strings s x) n) refl (nth (strings t x) m) refl (sym (reference-text s x n h .found) ∙ refl) e
-  where
-    go : (f : Found) → nth (strings s x) n ≡ f → (w : Found) → nth (strings t x) m ≡ w → Reference.Text (reference-text s x n h .span) ≡ reference s x n
-        → referenceAt s x f ≡ referenceAt t x w → n ≡ m
-    go (At p) a (At q) b r d =
-        let z : spanAt s (x .to) p ≡ spanAt t (x .to) q = cc in
-        let o : q ≡ p = sym (ap (λ y. y .place) z) in
-        same-number (stringEnd s (x .to)) (x .to) (string-grows s (x .to)) (x .from) n m p a
-        (ap (λ (l : List ℕ). nth l m) (strings-same s t x same) ∙ b ∙ ap At o)
-    go (At p) a Nothing b r d = let z : _≡_ {A = ℕ} 0 1 = cc in absurd (omega arith)
-    go Nothing a w b r d =
-        let y : Reference.Text (reference-text s x n h .span) ≡ Reference.Undecodable = r ∙ ap (referenceAt s x) a in
-        let z : _≡_ {A = ℕ} 0 1 = cc in absurd (omega arith)
-
--- the item that the listed pool is the data of
-record PoolItem (k : Kinds) (s : List ℕ) : Type 0 where
-  number : ℕ
-  place : ℕ
-  stands : nth (items s) number ≡ At place
-  tag : byte s place ≡ 0x01
-
-pool-item : (k : Kinds) (s : List ℕ) → 0 < length (texts s (pool k s)) → PoolItem k s
-unfolding texts split tab
-pool-item k s =
-    pool-view k s (λ x. 0 < length (texts s x) → PoolItem k s) (λ h. absurd (omega arith))
-    (λ p e a b m own h.
-    let w = known-holds k s 0x01 p (λ q. (n : ℕ) × (nth (items s) n ≡ At q)) (all-of-nth (λ q. (n : ℕ) × (nth (items s) n ≡ At q)) (items s) (λ n q at. (n, at))) e in
-    record { number = w .2 .0; place = p; stands = w .2 .1; tag = own })
-
--- what request R-7 shows of each reference: its place and count
-abbrev pub SameReferences : Kinds → List ℕ → List ℕ → Type 0
-SameReferences k s t =
-    (i p : ℕ) → nth (items s) i ≡ At p → isKnown k s p ≡ true → (j : ℕ) → j < indexCount (shapeOf (byte s p))
-    → reference s (pool k s) (byte s (dataAt s p + j)) ≡ reference t (pool k t) (byte t (dataAt t p + j))
-
-module _ (k : Kinds) (s t : List ℕ) (good : Octets s) (fine : Octets t) (c d : ℕ) (e : judged k s ≡ Accepted c) (g : judged k t ≡ Accepted d) (items-said : Shows k s t) (strings : (n : ℕ) → stringSaid s (stringNumbered k s n) ≡ stringSaid t (stringNumbered k t n)) (references : SameReferences k s t) (on : listed k (Tag 0x01) ≡ true) where
-  -- both have one pool, and its bytes agree
-  pools : 0 < length (texts s (pool k s)) → (pool k t ≡ pool k s) × Same s t (pool k s .from) (pool k s .to)
-  pools h =
-      let w : PoolItem k s = pool-item k s h in
-      let o : Both k s t c d e g items-said (w .number) (w .place) = both k s t c d e g items-said (w .number) (w .place) (w .stands) in
-      let known : isKnown k s (w .place) ≡ true = ap (λ (x : ℕ). listed k (Tag x)) (w .tag) ∙ on in
-      let here = mine k s t good fine c d e g (w .number) (w .place) (w .stands) (o .too) (o .item) known (w .tag) strings in
-      let there = theirs k s t good fine c d e g (w .number) (w .place) (w .stands) (o .too) (o .item) known (w .tag) strings in (
-        there ∙ sym here,
-        subst (λ (x : layout.Pool). Same s t (x .from) (x .to)) (sym here)
-            (pool-told k s t good fine c d e g (w .number) (w .place) (w .stands) (o .too) (o .item) known (w .tag) strings),
-      )
-
-  index-told : (i p : ℕ) → nth (items s) i ≡ At p → isKnown k s p ≡ true → (j : ℕ) → j < indexCount (shapeOf (byte s p)) → byte s (dataAt s p + j) ≡ byte t (dataAt s p + j)
-  index-told i p at known j h =
-      let o : Both k s t c d e g items-said i p = both k s t c d e g items-said i p at in
-      let below-count : byte s (dataAt s p + j) < length (texts s (pool k s)) =
-      nth-all (λ p. listed k (Tag (byte s p)) ≡ true → (i : ℕ) → i < indexCount (shapeOf (byte s p)) → byte s (dataAt s p + i) < length (texts s (pool k s))) (items s) i p
-      (indexes-resolve k s c e on) at known j h in
-      let w = pools (omega arith) in
-      one-index s t (pool k s) (w .1) (byte s (dataAt s p + j)) (byte t (dataAt s p + j)) below-count
-      (references i p at known j h
-      ∙ ap₂ (λ (x : layout.Pool) (y : ℕ). reference t x (byte t (y + j))) (w .0) (sym (datas k s t good fine c d e g i p at (o .too) (o .item))))
-
-  -- so with 01 on the list only the check byte and the data of items not known are left
-  pub complete-listed : (q : ℕ) → q < total s
-      → (byte s q ≡ byte t q) ⊎ ((q ≡ checkPlace s) ⊎ Inside (items s) (λ p. isKnown k s p ≡ false) (dataAt s) (next s) q)
-  complete-listed q h = go (complete-tiny k s t good fine c d e g items-said strings q h)
-    where
-      go : (byte s q ≡ byte t q) ⊎ NotShown k s q
-          → (byte s q ≡ byte t q) ⊎ ((q ≡ checkPlace s) ⊎ Inside (items s) (λ p. isKnown k s p ≡ false) (dataAt s) (next s) q)
-      go (inl z) = inl z
-      go (inr (check z)) = inr (inl z)
-      go (inr (unknown u)) = inr (inr u)
-      go (inr (index u)) =
-          let p : ℕ = u .place in
-          let z : dataAt s p + (q - dataAt s p) ≡ q = omega (arith, u .past) in
-          inl (subst (λ (x : ℕ). byte s x ≡ byte t x) z (index-told (u .number) p (u .stands) (u .property) (q - dataAt s p) (omega (arith, u .before, u .past))))
-
--- R-14: no item is not known, so the first L bytes are equal
-pub one-listing : (k : Kinds) (s t : List ℕ) (good : Octets s) (fine : Octets t) (c d : ℕ) → judged k s ≡ Accepted c → judged k t ≡ Accepted d → Shows k s t
-    → ((n : ℕ) → stringSaid s (stringNumbered k s n) ≡ stringSaid t (stringNumbered k t n)) → SameReferences k s t → listed k (Tag 0x01) ≡ true
-    → All (λ p. isKnown k s p ≡ true) (items s) → take (total s) s ≡ take (total t) t
-one-listing k s t good fine c d e g items-said strings references on known =
-    take-same s t (total s) whole (total-within k s c e .1) (omega (arith, total-within k t d g .1, len)) ∙ ap (λ (n : ℕ). take n t) len
-  where
-    len : total s ≡ total t
-    len = totals k s t good fine c d e g items-said strings
-
-    before : Same s t 0 (checkPlace s)
-    before q h l =
-        elim (complete-listed k s t good fine c d e g items-said strings references on q (omega arith)) [
-          | inl z ↦ z
-          | inr (inl z) ↦ absurd (omega arith)
-          | inr (inr u) ↦ absurd (false≢true (sym (u .property) ∙ nth-all (λ p. isKnown k s p ≡ true) (items s) (u .number) (u .place) known (u .stands)))
-        ]
-
-    front : take (checkPlace s) s ≡ take (checkPlace t) t
-    front =
-        take-same s t (checkPlace s) before (omega (arith, total-within k s c e .1)) (omega (arith, total-within k t d g .1, len))
-        ∙ ap (λ (n : ℕ). take (n - 1) t) len
-
-    whole : Same s t 0 (total s)
-    whole q h l =
-        elim (below q (checkPlace s)) [
-          | inl x ↦ before q h x
-          | inr x ↦
-              let z : q ≡ checkPlace s = omega (arith, total-within k s c e .0) in
-              ap (byte s) z ∙ check-holds k s c e ∙ ap crc8 front ∙ sym (check-holds k t d g) ∙ ap (byte t) (ap (λ (n : ℕ). n - 1) (sym len) ∙ sym z)
-        ]
