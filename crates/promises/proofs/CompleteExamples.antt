@@ -1,13 +1,13 @@
 -- The claim `Complete` at a few board images: its premises can be met, and what it says is seen by computation. Assumes nothing.
 use Prim.Native.Nat.{ℕ}
-use mathlib.Core.Bool.{true, not, _&&_}
+use mathlib.Core.Bool.{true, _&&_}
 use mathlib.Core.List.{List, [], _∷_, _++_}
 use mathlib.Core.Logic.{_⊎_, inl, inr}
 use mathlib.Core.Path.{_≡_, refl, ap}
 use native.Mathlib.Omega.{arith}
 use lib.Dec.{ltb, leb}
-use lib.ListN.{length, replicate}
-use borrow.Author.Tests.{ltb-true, leb-true, not-false}
+use lib.ListN.{replicate}
+use borrow.Author.Tests.{ltb-true, leb-true}
 use Rattle.board.specs.Answers.{mapRecordNumbered, gpioRecordNumbered}
 use Rattle.board.specs.Items.{restAt, eepromAt, eeprMapAt, brdInfoAt, fpgaNfoAt, itemAt}
 use Rattle.board.specs.NotShown.{NotShown, check, following, VersionUnknown}
@@ -25,14 +25,11 @@ use Rattle.board_records.specs.Records.{badMapRecord, badGpioRecord}
 use Rattle.board_rules.specs.Examples.{zeros, head, image, logo}
 use Rattle.board_rules.specs.Judged.{judged}
 use Rattle.board_rules.specs.Rules.{rule20, rule21, rule22, rule23, rule24, rule25, rule26, rule27, rule28, rule29, rule30, rule31, rule32, rule33, misplaced, gapUsed, expected, outOfOrder, promSigAt, covered, checkOver}
-use Rattle.chain.specs.Chain.{visit, chain, range}
+use Rattle.chain.specs.Chain.{visit, chain}
 use Rattle.chain.specs.Fill.{tab}
-use Rattle.chain.specs.First.{first, when}
+use Rattle.chain.specs.First.{first}
 use Rattle.chain.specs.Nth.{nth}
 use Rattle.chain.specs.Onward.{onward}
-use Rattle.chain.specs.declared.Found.the-variants.{Nothing}
-use Rattle.chain.specs.laws.Below.{below}
-use Rattle.chain.specs.laws.Ranges.{range-none}
 use Rattle.crc.specs.Crc32.{crc32, shift, shifts, step32}
 use Rattle.kinds.specs.Kinds.{listed, picked, all, full, same}
 use Rattle.kinds.specs.Signatures as signatures
@@ -41,10 +38,9 @@ use Rattle.octets.specs.Bytes.{le16, le32, le64, byte, Octets}
 use Rattle.octets.specs.Label.{isText, isLabelText, textEnd, badLabel}
 use Rattle.octets.specs.Rows.{number, part}
 use Rattle.octets.specs.Runs.{sixteenAt, nonzero}
-use Rattle.octets.specs.laws.Bytes.{byte-past}
 use Rattle.promises.proofs.BoardExamples.{accepts-board, logoless-one, logoless-other, images-board}
 use Rattle.promises.proofs.Complete.{complete}
-use Rattle.promises.proofs.Differ.{both, one-of-three}
+use Rattle.promises.proofs.Differ.{both, one-of-three, octets-tested}
 use Rattle.promises.specs.Answers.{answers}
 use Rattle.promises.specs.BoardInstances as instances
 use Rattle.promises.specs.Complete.{AgreeBut}
@@ -58,14 +54,6 @@ use Rattle.reader.specs.Walk.{moved, shown, walked, stepNumbered}
 use Rattle.reader.specs.declared.Format.the-variants.{Board}
 use Rattle.verdict.specs.Said.{says}
 
--- ---- bytes, by a test of each
-octets-tested : (s : List ℕ) → first (λ q. when (not (ltb (byte s q) 256)) q) (range 0 (length s)) ≡ Nothing → Octets s
-octets-tested s none q =
-    elim (below q (length s)) [
-      | inl h ↦ ltb-true (byte s q) 256 (not-false (ltb (byte s q) 256) (range-none (λ i. not (ltb (byte s i) 256)) (λ i. i) (length s) 0 none q (omega arith) h))
-      | inr h ↦ omega (arith, byte-past s q h)
-    ]
-
 -- ---- told: two images that a reader without `$Logo$` answers alike agree on all but Crc32, and the logo's data and versions
 one-octets : Octets instances.one
 unfolding first visit chain
@@ -77,8 +65,9 @@ other-octets = octets-tested instances.other refl
 
 logos-told : AgreeBut Board (λ q. NotShown instances.logoless instances.one q ⊎ VersionUnknown instances.logoless instances.one q) instances.one instances.other
 logos-told =
-    complete .told instances.logoless instances.one instances.other one-octets other-octets logoless-one logoless-other
-    (λ i. ap (λ x. x .item i) images-board) (ap (λ x. x .further) images-board)
+    complete Board .told instances.logoless instances.one instances.other one-octets other-octets logoless-one logoless-other
+    (λ i. ap (λ x. x .item i) images-board)
+    (λ n. ap (λ x. x .further .mapRecord n) images-board, λ i n. ap (λ x. x .further .gpioRecord i n) images-board)
 
 -- ---- alike: two logos that differ in their data are answered alike by the full list, which knows them
 abbrev blue : List ℕ
@@ -116,7 +105,7 @@ blue-logo =
         }))
 
 logos-alike : answers Board full instances.one ≡ answers Board full blue
-logos-alike = complete .alike full instances.one blue accepts-board accepts-blue blue-logo
+logos-alike = complete Board .alike full instances.one blue accepts-board accepts-blue blue-logo
 
 -- ---- and a byte that is shown makes a difference, by computation alone: FuncNum 3 and 4
 abbrev fpga : ℕ → ℕ → List ℕ

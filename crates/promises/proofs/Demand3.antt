@@ -12,11 +12,12 @@ use Rattle.kinds.specs.declared.Kinds.{Kinds}
 use Rattle.promises.proofs.BoardReaders.{board-item-hidden, board-entry-hidden, map-hidden, gpio-hidden}
 use Rattle.promises.proofs.Exactly.{entry-shown, unknown-exactly, undecoded-exactly, unlooked-exactly, nameless-exactly}
 use Rattle.promises.proofs.Given.{answers-equal, view, judge-given, item-given, walk-given, list-given}
-use Rattle.promises.proofs.Images.{SeenAlike, seen-alike}
+use Rattle.promises.proofs.Images.{SeenAlike, seen-alike, outside-shown}
 use Rattle.promises.proofs.TinyReaders.{tiny-item-hidden, tiny-entry-hidden, string-hidden, name-hidden}
 use Rattle.promises.proofs.Verdicts.{accepted-by, says-count}
 use Rattle.promises.proofs.View as seen
 use Rattle.promises.specs.Answers.{furtherAnswers, answers}
+use Rattle.promises.specs.Complete.{NotShown, AgreeBut}
 use Rattle.promises.specs.Demand3.{Accepted, StringsOf, TwoReaders, asStep, asEntry, SameItems, Demand3}
 use Rattle.promises.specs.Hidden.{hideItem, hideStep, hideEntry, hideList, hideSaid, hideRecord, hideFurther, hidden}
 use Rattle.reader.specs.Formats.{judged, places}
@@ -107,11 +108,12 @@ module _ (longer shorter : Kinds) (contains : Contains longer shorter) (s : List
         }
 
 -- ---- two images
--- in which the reader sees the same
+-- that agree on every byte that is shown
 pub images-alike : (f : Format) (k : Kinds) (s t : List ℕ) (c d : ℕ) → judged f k s ≡ verdict.Judged.Accepted c → judged f k t ≡ verdict.Judged.Accepted d
-    → SeenAlike f k s t → answers f k s ≡ answers f k t
+    → AgreeBut f (NotShown f k s) s t → answers f k s ≡ answers f k t
 unfolding answers
-images-alike f k s t c d e g both =
+images-alike f k s t c d e g same =
+    let both : SeenAlike f k s t = seen-alike f k s t c d e g same in
     let v = view f k s in
     let w = view f k t in
     answers-equal f (answers f k s) (answers f k t)
@@ -151,7 +153,7 @@ demand3 f =
       images = λ k s t a b same.
           let e = accepted-by f k s (a .0) (a .1) in
           let g = accepted-by f k t (b .0) (b .1) in
-          images-alike f k s t (a .0) (b .0) e g (seen-alike f k s t (a .0) (b .0) e g same);
+          images-alike f k s t (a .0) (b .0) e g (outside-shown f k s t same);
       walks = λ k s i. ap (stepSaid (now s)) (walk-shows f s k i);
       calls = λ k s n said. same-items f k s n (accepted-by f k s n said);
     }

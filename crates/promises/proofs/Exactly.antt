@@ -92,7 +92,7 @@ known-listed Tiny k s p = refl
 known-listed Board k s p = known-exactly k (signatureAt s p) (majorAt s p)
 
 -- an item is shown at its own place
-item-place : (f : Format) (k : Kinds) (s : List ℕ) (p : ℕ) → view f k s .item p .place ≡ p
+pub item-place : (f : Format) (k : Kinds) (s : List ℕ) (p : ℕ) → view f k s .item p .place ≡ p
 unfolding tiny.itemAt board.itemAt
 item-place Tiny k s p = refl
 item-place Board k s p = refl

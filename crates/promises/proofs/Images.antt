@@ -1,7 +1,6 @@
--- Two accepted images that agree outside the data of unknown items and the check fields: one reader sees the same in both, at each place, and answers the calls
--- of the format alike. Each format's premise is the one over both formats, in its own terms. Assumes nothing.
+-- Two accepted images that agree on every byte that is shown: one reader sees the same in both, at each place, and answers the calls of the format alike.
+-- Assumes nothing.
 use Prim.Native.Nat.{ℕ, _-_}
-use mathlib.Core.Bool.{false}
 use mathlib.Core.List.{List, []}
 use mathlib.Core.Logic.{_⊎_, inl, inr}
 use mathlib.Core.Path.{_≡_, ap, _∙_}
@@ -21,13 +20,15 @@ use Rattle.kinds.specs.declared.Kinds.{Kinds}
 use Rattle.octets.specs.Bytes.{byte}
 use Rattle.promises.proofs.Given.{view}
 use Rattle.promises.specs.Answers.{furtherAnswers}
-use Rattle.promises.specs.SameOutside.{Lacks, InCheck, InsideUnknown, SameOutside}
+use Rattle.promises.specs.Complete.{NotShown, AgreeBut}
+use Rattle.promises.specs.SameOutside.{InCheck, InsideUnknown, SameOutside}
 use Rattle.reader.specs.Entries.{entryAt}
 use Rattle.reader.specs.Formats.{judged, places}
 use Rattle.reader.specs.Values.{ItemValues, tinyFields, itemValues}
 use Rattle.reader.specs.declared.Format.{Format}
 use Rattle.reader.specs.declared.Format.the-variants.{Tiny, Board}
 use Rattle.reader.specs.declared.Item.{Item}
+use Rattle.tiny.specs.NotShown as tiny-shows
 use Rattle.tiny.specs.Values as tiny-values
 use Rattle.tiny.specs.Values.{nameSaid}
 use Rattle.tiny.specs.declared.NameAnswer.{NameAnswer}
@@ -35,26 +36,32 @@ use Rattle.tiny.specs.laws.Alike as tiny
 use Rattle.tiny_layout.specs.Layout.{items}
 use Rattle.verdict.specs.declared.Judged.the-variants.{Accepted}
 
--- ---- the premise in each format's terms
-tiny-alike : (k : Kinds) (s t : List ℕ) → SameOutside Tiny k s t → tiny.Alike k s t
-tiny-alike k s t same = record { length = same .length; bytes = same .bytes }
-
--- a structure whose kind and version the list lacks is one that it does not know
-board-alike : (k : Kinds) (s t : List ℕ) → SameOutside Board k s t → board.Alike k s t
+-- ---- demand 3's premise: images that agree outside the data of unknown items and the check fields agree on what is shown
+pub outside-shown : (f : Format) (k : Kinds) (s t : List ℕ) → SameOutside f k s t → AgreeBut f (NotShown f k s) s t
 unfolding shapeAt
-board-alike k s t same = record { length = same .length; bytes = λ q h. go q (same .bytes q h) }
+outside-shown f k s t same = record { length = same .length; bytes = λ q h. go f q (same .bytes q h) }
   where
-    unknown : (p : ℕ) → Lacks Board k s p → knows k (shapeAt s p) ≡ false
-    unknown p lacks = known-exactly k (signatureAt s p) (majorAt s p) ∙ lacks
+    -- an item whose kind and version the list lacks is one that it does not know
+    unknown : (f : Format) (q : ℕ) → InsideUnknown f k s q → NotShown f k s q
+    unknown Tiny q u = tiny-shows.unknown u
+    unknown Board q u =
+        board-shows.unknown (record {
+          number = u .number;
+          place = u .place;
+          stands = u .stands;
+          property = known-exactly k (signatureAt s (u .place)) (majorAt s (u .place)) ∙ u .property;
+          past = u .past;
+          before = u .before;
+        })
 
-    inside : (q : ℕ) → InsideUnknown Board k s q → board-shows.InsideUnknown k s q
-    inside q u =
-        record { number = u .number; place = u .place; stands = u .stands; property = unknown (u .place) (u .property); past = u .past; before = u .before }
+    check : (f : Format) (q : ℕ) → InCheck f s q → NotShown f k s q
+    check Tiny q h = tiny-shows.check h
+    check Board q h = board-shows.check h
 
-    go : (q : ℕ) → (byte s q ≡ byte t q) ⊎ (InCheck Board s q ⊎ InsideUnknown Board k s q) → (byte s q ≡ byte t q) ⊎ board-shows.NotShown k s q
-    go q (inl e) = inl e
-    go q (inr (inl h)) = inr (board-shows.check h)
-    go q (inr (inr u)) = inr (board-shows.unknown (inside q u))
+    go : (f : Format) (q : ℕ) → (byte s q ≡ byte t q) ⊎ (InCheck f s q ⊎ InsideUnknown f k s q) → (byte s q ≡ byte t q) ⊎ NotShown f k s q
+    go f q (inl e) = inl e
+    go f q (inr (inl h)) = inr (check f q h)
+    go f q (inr (inr u)) = inr (unknown f q u)
 
 -- ---- what is seen in both
 pub record SeenAlike (f : Format) (k : Kinds) (s t : List ℕ) : Type 0 where
@@ -63,11 +70,10 @@ pub record SeenAlike (f : Format) (k : Kinds) (s t : List ℕ) : Type 0 where
   pub entries : All (λ p. view f k s .entry p ≡ view f k t .entry p) (view f k s .places)
   pub further : furtherAnswers f k s ≡ furtherAnswers f k t
 
-module _ (k : Kinds) (s t : List ℕ) (c d : ℕ) (e : judged Tiny k s ≡ Accepted c) (g : judged Tiny k t ≡ Accepted d) (same : SameOutside Tiny k s t) where
+module _ (k : Kinds) (s t : List ℕ) (c d : ℕ) (e : judged Tiny k s ≡ Accepted c) (g : judged Tiny k t ≡ Accepted d) (alike : tiny.Alike k s t) where
   tiny-seen : SeenAlike Tiny k s t
   unfolding entryAt
   tiny-seen =
-      let alike : tiny.Alike k s t = tiny-alike k s t same in
       record {
         places = tiny.items-alike k s t c e alike;
         items = all-of-nth (λ p. view Tiny k s .item p ≡ view Tiny k t .item p) (items s) (λ i p at. ap shown (tiny.values-alike k s t c e alike i p at));
@@ -89,7 +95,7 @@ module _ (k : Kinds) (s t : List ℕ) (c d : ℕ) (e : judged Tiny k s ≡ Accep
       shown v = record { kind = Tag (v .kind); place = v .place; length = v .length; fields = tinyFields (v .fields) }
 
 module _ (k : Kinds) (s t : List ℕ) (c d : ℕ) (e : judged Board k s ≡ Accepted c) (g : judged Board k t ≡ Accepted d) (alike : board.Alike k s t) where
-  pub board-seen : SeenAlike Board k s t
+  board-seen : SeenAlike Board k s t
   unfolding entryAt
   board-seen =
       record {
@@ -114,6 +120,7 @@ module _ (k : Kinds) (s t : List ℕ) (c d : ℕ) (e : judged Board k s ≡ Acce
       shown : board-shown.ShownItem → ItemValues
       shown v = itemValues [] (Item.Board v)
 
-pub seen-alike : (f : Format) (k : Kinds) (s t : List ℕ) (c d : ℕ) → judged f k s ≡ Accepted c → judged f k t ≡ Accepted d → SameOutside f k s t → SeenAlike f k s t
-seen-alike Tiny = tiny-seen
-seen-alike Board = λ k s t c d e g same. board-seen k s t c d e g (board-alike k s t same)
+pub seen-alike : (f : Format) (k : Kinds) (s t : List ℕ) (c d : ℕ) → judged f k s ≡ Accepted c → judged f k t ≡ Accepted d → AgreeBut f (NotShown f k s) s t
+    → SeenAlike f k s t
+seen-alike Tiny k s t c d e g same = tiny-seen k s t c d e g (record { length = same .length; bytes = same .bytes })
+seen-alike Board k s t c d e g same = board-seen k s t c d e g (record { length = same .length; bytes = same .bytes })

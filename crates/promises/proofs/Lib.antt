@@ -9,6 +9,9 @@ pub mod BoardReaders
 pub mod Images
 pub mod Exactly
 pub mod Demand3
+pub mod Stand
+pub mod CompleteTiny
+pub mod CompleteBoard
 pub mod Complete
 pub mod Differ
 pub mod TinyExamples

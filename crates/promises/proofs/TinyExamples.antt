@@ -5,7 +5,7 @@ use borrow.Author.Tests.{eqb-true}
 use mathlib.Core.Bool.{Bool, true, false, false≢true}
 use mathlib.Core.List.{List, [], _∷_}
 use mathlib.Core.Logic.{_⊎_, inl, inr}
-use mathlib.Core.Path.{_≡_, refl, sym, _∙_}
+use mathlib.Core.Path.{_≡_, refl, sym, ap, _∙_}
 use native.Mathlib.Omega.{arith}
 use lib.Dec.{eqb}
 use Rattle.chain.specs.Chain.{visit, chain}
@@ -21,9 +21,11 @@ use Rattle.kinds.specs.declared.Kind.the-variants.{Tag}
 use Rattle.kinds.specs.laws.Kinds.{full-contains}
 use Rattle.octets.specs.Bytes.{le16, byte}
 use Rattle.octets.specs.Label.{isText}
+use Rattle.promises.proofs.Complete.{complete}
 use Rattle.promises.proofs.Demand3.{demand3}
-use Rattle.promises.proofs.Differ.{one-of-three}
+use Rattle.promises.proofs.Differ.{one-of-three, octets-tested}
 use Rattle.promises.specs.Answers.{answers}
+use Rattle.promises.specs.Complete.{NotShown, NotTold, AgreeBut}
 use Rattle.promises.specs.Demand3.{Accepted, TwoReaders}
 use Rattle.promises.specs.Hidden.{hidden}
 use Rattle.promises.specs.SameOutside.{onList, SameOutside, InCheck, InsideUnknown}
@@ -40,6 +42,7 @@ use Rattle.reader.specs.declared.Format.the-variants.{Tiny}
 use Rattle.tiny.specs.Answers.{stringNumbered, nameOf}
 use Rattle.tiny.specs.Items.{identityAt, batchedAt, poolShown, itemAt}
 use Rattle.tiny.specs.Major.{majorText}
+use Rattle.tiny.specs.NotShown.{InIndex, check, index}
 use Rattle.tiny.specs.Values as values
 use Rattle.tiny.specs.Values.{ReferenceValue}
 use Rattle.tiny_layout.specs.Layout.{headSize, dataLength, next}
@@ -141,3 +144,36 @@ poolless-sees : instances.seen (answers Tiny (without (Tag 0x01)) instances.one)
     }
 unfolding answers hidden itemNumbered listOf entryAt onward moved step-shown walked stepNumbered judged rule1 rule2 rule3 rule4 rule5 rule6 rule7 rule8 rule9 rule10 rule11 badIndex isMajor badRevision badBatch stringNumbered nameOf itemAt identityAt batchedAt poolShown majorText first visit chain keep only nth next headSize dataLength pool split texts stringEnd reference shapeOf tab le16 crc8 reduce bring bitsOf bitsOfAll listed picked all same isText
 poolless-sees = refl
+
+-- ---- a reader without the pool shows no string: two images that differ in a string's number, at 4, and in the check byte are answered alike
+poolless-one : Accepted (answers Tiny (without (Tag 0x01)) instances.one)
+unfolding answers hidden itemNumbered listOf entryAt onward moved step-shown walked stepNumbered judged rule1 rule2 rule3 rule4 rule5 rule6 rule7 rule8 rule9 rule10 rule11 badIndex isMajor badRevision badBatch stringNumbered nameOf itemAt identityAt batchedAt poolShown majorText first visit chain keep only nth next headSize dataLength pool split texts stringEnd reference shapeOf tab le16 crc8 reduce bring bitsOf bitsOfAll listed picked all same isText
+poolless-one = (3, refl)
+
+poolless-third : Accepted (answers Tiny (without (Tag 0x01)) instances.third)
+unfolding answers hidden itemNumbered listOf entryAt onward moved step-shown walked stepNumbered judged rule1 rule2 rule3 rule4 rule5 rule6 rule7 rule8 rule9 rule10 rule11 badIndex isMajor badRevision badBatch stringNumbered nameOf itemAt identityAt batchedAt poolShown majorText first visit chain keep only nth next headSize dataLength pool split texts stringEnd reference shapeOf tab le16 crc8 reduce bring bitsOf bitsOfAll listed picked all same isText
+poolless-third = (3, refl)
+
+numbers : AgreeBut Tiny (NotShown Tiny (without (Tag 0x01)) instances.one) instances.one instances.third
+unfolding answers hidden itemNumbered listOf entryAt onward moved step-shown walked stepNumbered judged rule1 rule2 rule3 rule4 rule5 rule6 rule7 rule8 rule9 rule10 rule11 badIndex isMajor badRevision badBatch stringNumbered nameOf itemAt identityAt batchedAt poolShown majorText first visit chain keep only nth next headSize dataLength pool split texts stringEnd reference shapeOf tab le16 crc8 reduce bring bitsOf bitsOfAll listed picked all same isText
+numbers = record { length = refl; bytes = λ q h. go q (one-of-three instances.one instances.third (λ x. eqb x 13) (λ x. eqb x 4) 14 refl q h) }
+  where
+    serial-index : (q : ℕ) → q ≡ 4 → InIndex (without (Tag 0x01)) instances.one q
+    serial-index q e = record { number = 0; place = 3; stands = refl; property = refl; past = omega (arith, e); before = omega (arith, e) }
+
+    go : (q : ℕ) → (byte instances.one q ≡ byte instances.third q) ⊎ ((eqb q 13 ≡ true) ⊎ (eqb q 4 ≡ true))
+        → (byte instances.one q ≡ byte instances.third q) ⊎ NotShown Tiny (without (Tag 0x01)) instances.one q
+    go q (inl e) = inl e
+    go q (inr (inl e)) = inr (check (eqb-true q 13 e))
+    go q (inr (inr e)) = inr (index refl (serial-index q (eqb-true q 4 e)))
+
+numbers-alike : answers Tiny (without (Tag 0x01)) instances.one ≡ answers Tiny (without (Tag 0x01)) instances.third
+numbers-alike = complete Tiny .alike (without (Tag 0x01)) instances.one instances.third poolless-one poolless-third numbers
+
+-- ---- and what is answered alike agrees on all else: the two images that differ in flags, to a reader that does not know them
+flags-told :
+    AgreeBut Tiny (λ q. NotShown Tiny (without (Tag 0x11)) instances.one q ⊎ NotTold Tiny (without (Tag 0x11)) instances.one q) instances.one instances.other
+unfolding first visit chain
+flags-told =
+    complete Tiny .told (without (Tag 0x11)) instances.one instances.other (octets-tested instances.one refl) (octets-tested instances.other refl) flagless-one flagless-other
+    (λ i. ap (λ x. x .item i) images-one) (λ n. ap (λ x. x .further .string n) images-one)

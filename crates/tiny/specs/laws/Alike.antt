@@ -37,7 +37,7 @@ use Rattle.tiny_rules.specs.Judged.{judged}
 use Rattle.tiny_rules.specs.laws.Accepted.{accepted-count, items-fit}
 use Rattle.tiny.specs.Answers.{numbered, itemIf, itemNumbered, stringIf, stringNumbered, isSerial, serials, serialOf, copied, nameAt, nameIn, nameIf, nameOf}
 use Rattle.tiny.specs.Items.{itemAt}
-use Rattle.tiny.specs.NotShown.{InCheck, InsideUnknown, InIndex, NotShown, check, unknown, index}
+use Rattle.tiny.specs.NotShown.{InsideUnknown, InIndex, NotShown, check, unknown, index}
 use Rattle.tiny.specs.Values.{itemValues, itemSaid, stringSaid}
 use Rattle.tiny.specs.declared.ItemAnswer.{ItemAnswer}
 use Rattle.tiny.specs.declared.ShownItem.{ShownItem}

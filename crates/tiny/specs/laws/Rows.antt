@@ -1,6 +1,6 @@
 -- What is shown of a known item is, under each label of its tag's table, the number, the bytes or the string at that row. (So no field is left out, none is
 -- taken from another row, and no two labels are exchanged.) Assumes nothing.
-use Prim.Native.Nat.{ℕ, _+_, _-_}
+use Prim.Native.Nat.{ℕ}
 use mathlib.Core.Bool.{Bool, true, cond}
 use mathlib.Core.List.{List, [], _∷_}
 use mathlib.Core.Path.{_≡_, refl, ap, ap₂, _∙_}
@@ -11,7 +11,7 @@ use Rattle.kinds.specs.declared.Kinds.{Kinds}
 use Rattle.octets.specs.Bytes.{byte, le16}
 use Rattle.octets.specs.Rows.{Value, part, shownRows}
 use Rattle.octets.specs.Runs.{sixAt}
-use Rattle.tiny_layout.specs.Layout.{headSize, dataAt, dataLength, next}
+use Rattle.tiny_layout.specs.Layout.{dataAt, dataLength, next}
 use Rattle.tiny_layout.specs.Pool.{isKnown, pool}
 use Rattle.tiny_layout.specs.Strings.{reference}
 use Rattle.tiny_layout.specs.Tables.{table}

@@ -3,28 +3,23 @@
 -- as well (`complete-listed`); so with no item not known the first L bytes are equal (`one-listing`, request R-14). Assumes nothing.
 use Prim.Native.Nat.{ℕ, zero, suc, _+_, _-_, _/_, _≤_, _<_}
 use mathlib.Core.Bool.{Bool, true, false, cond, _&&_, false≢true}
-use mathlib.Core.List.{List, [], _∷_}
+use mathlib.Core.List.{List, []}
 use mathlib.Core.Logic.{_⊎_, inl, inr}
 use mathlib.Core.Path.{_≡_, refl, sym, ap, ap₂, subst, _∙_}
 use native.Mathlib.Omega.{arith}
 use borrow.Author.Tests.{eqb-true, eq-eqb}
-use lib.ListN.{length, getD, take}
+use lib.ListN.{length, getD}
 use lib.Seq.{ext-getD}
 use Rattle.chain.specs.All.{All}
-use Rattle.chain.specs.Chain.{chain}
-use Rattle.chain.specs.Fill.{tab}
 use Rattle.chain.specs.First.{first}
-use Rattle.chain.specs.Inside.{Inside}
 use Rattle.chain.specs.Nth.{nth}
 use Rattle.chain.specs.declared.Found.{Found}
 use Rattle.chain.specs.declared.Found.the-variants.{At, Nothing}
 use Rattle.chain.specs.laws.Apart.{Apart, chain-apart}
 use Rattle.chain.specs.laws.Below.{below}
-use Rattle.chain.specs.laws.First.{at-nothing, first-all, when-nothing}
+use Rattle.chain.specs.laws.First.{first-all, when-nothing}
 use Rattle.chain.specs.laws.Inside.{In, chain-covers}
-use Rattle.chain.specs.laws.Nth.{nth-below, nth-past, nth-all, all-of-nth}
-use Rattle.chain.specs.laws.Places.{places-rise}
-use Rattle.crc.specs.Crc8.{crc8}
+use Rattle.chain.specs.laws.Nth.{nth-all, all-of-nth}
 use Rattle.kinds.specs.Kinds.{listed}
 use Rattle.kinds.specs.declared.Kind.the-variants.{Tag}
 use Rattle.kinds.specs.declared.Kinds.{Kinds}
@@ -34,34 +29,29 @@ use Rattle.octets.specs.laws.Bytes.{length-run, byte-run, run-octets}
 use Rattle.octets.specs.laws.Rows.{rows-told}
 use Rattle.octets.specs.laws.Same.{Same}
 use Rattle.octets.specs.laws.Told.{run-told}
-use Rattle.tiny.specs.Answers.{numbered, itemIf, itemNumbered, stringNumbered}
-use Rattle.tiny.specs.Items.{identityAt, batchedAt, poolShown, fieldsAt, itemAt}
+use Rattle.tiny.specs.Answers.{stringNumbered}
+use Rattle.tiny.specs.Items.{poolShown, fieldsAt, itemAt}
 use Rattle.tiny.specs.NotShown.{InIndex, NotShown, check, unknown}
 use Rattle.tiny.specs.Shown.{stringValue, labelled, itemShown}
 use Rattle.tiny.specs.Texts.{referred}
-use Rattle.tiny.specs.Values.{itemValues, fieldValues, itemSaid, stringSaid}
+use Rattle.tiny.specs.Values.{itemValues, fieldValues, stringSaid}
 use Rattle.tiny.specs.declared.Item.{Item}
 use Rattle.tiny.specs.laws.Exactly.{Filled, listed-filled}
 use Rattle.tiny.specs.laws.Rows.{known-rows}
-use Rattle.tiny.specs.laws.Resolved.{reference-text, string-text}
+use Rattle.tiny.specs.laws.Resolved.{string-text}
 use Rattle.tiny_layout.specs.Layout.{total, checkPlace, isLong, headSize, dataLength, dataAt, next, items}
 use Rattle.tiny_layout.specs.Pool.{isKnown, isOf, knownOf, poolAt, pool}
-use Rattle.tiny_layout.specs.Strings.{isMarked, split, texts, stringEnd, strings, spanAt, referenceAt, reference}
+use Rattle.tiny_layout.specs.Strings.{isMarked, texts, strings}
 use Rattle.tiny_layout.specs.Tables.{table}
 use Rattle.tiny_layout.specs.laws.Tables.{gapless, hidden}
 use Rattle.tiny_layout.specs.Tags.{shapeOf, indexCount, fieldBytes}
-use Rattle.tiny_layout.specs.declared.Pool as layout
-use Rattle.tiny_layout.specs.declared.Reference.{Reference}
 use Rattle.tiny_layout.specs.declared.Shape.{Shape}
 use Rattle.tiny_layout.specs.laws.Layout.{next-grows, data-within, item-within}
-use Rattle.tiny_layout.specs.laws.Pool.{known-holds, pool-view}
-use Rattle.tiny_layout.specs.laws.Same.{strings-same}
-use Rattle.tiny_layout.specs.laws.Strings.{string-grows}
+use Rattle.tiny_layout.specs.laws.Pool.{known-holds}
 use Rattle.tiny_layout.specs.laws.Tags.{shape-view, fields-exact}
 use Rattle.tiny_rules.specs.Judged.{judged}
-use Rattle.tiny_rules.specs.laws.Accepted.{head-accepted, total-within, check-holds, items-fit, pool-last, pool-ends, indexes-resolve}
+use Rattle.tiny_rules.specs.laws.Accepted.{head-accepted, total-within, items-fit, pool-last, pool-ends}
 use Rattle.tiny_layout.specs.laws.Split.{Closed, split-injective}
-use Rattle.verdict.specs.Said.{says}
 use Rattle.verdict.specs.declared.Judged.the-variants.{Accepted}
 
 -- ---- one image: the listed pool is the item of tag 01
@@ -238,34 +228,23 @@ module _ (k : Kinds) (s t : List ℕ) (good : Octets s) (fine : Octets t) (c d :
           | inr z ↦ fields-told q a (omega (arith, b, data-end z))
         ]
 
-abbrev Shows : Kinds → List ℕ → List ℕ → Type 0
-Shows k s t = (i : ℕ) → itemSaid s (itemNumbered k s i) ≡ itemSaid t (itemNumbered k t i)
+-- ---- item i of the first stands at p, and so does that of the second, and both show the same
+pub record Both (k : Kinds) (s t : List ℕ) (i p : ℕ) : Type 0 where
+  pub too : nth (items t) i ≡ At p
+  pub item : itemValues s (itemAt k s (pool k s) p) ≡ itemValues t (itemAt k t (pool k t) p)
 
-module _ (k : Kinds) (s t : List ℕ) (c d : ℕ) (e : judged k s ≡ Accepted c) (g : judged k t ≡ Accepted d) (items-said : Shows k s t) where
-  pub record Both (i p : ℕ) : Type 0 where
-    pub too : nth (items t) i ≡ At p
-    pub item : itemValues s (itemAt k s (pool k s) p) ≡ itemValues t (itemAt k t (pool k t) p)
+-- every item of the first does
+abbrev pub AllBoth : Kinds → List ℕ → List ℕ → Type 0
+AllBoth k s t = (i p : ℕ) → nth (items s) i ≡ At p → Both k s t i p
 
-  both : (i p : ℕ) → nth (items s) i ≡ At p → Both i p
-  unfolding itemNumbered itemAt
-  both i p at =
-      go (nth (items t) i) refl
-      (sym (ap (λ (f : Found). itemSaid s (numbered k s f)) at) ∙ sym (ap (λ j. itemSaid s (itemIf k s i j)) e) ∙ items-said i ∙ ap (λ j. itemSaid t (itemIf k t i j)) g)
-    where
-      go : (f : Found) → nth (items t) i ≡ f → says (itemValues s (itemAt k s (pool k s) p)) ≡ itemSaid t (numbered k t f) → Both i p
-      go (At q) stands x =
-          let z : itemValues s (itemAt k s (pool k s) p) ≡ itemValues t (itemAt k t (pool k t) q) = cc in
-          let o : q ≡ p = sym (ap (λ v. v .place) z) in
-          record { too = stands ∙ ap At o; item = z ∙ ap (λ (x : ℕ). itemValues t (itemAt k t (pool k t) x)) o }
-      go Nothing stands x = let z : _≡_ {A = ℕ} 0 1 = cc in absurd (omega arith)
-
+module _ (k : Kinds) (s t : List ℕ) (c d : ℕ) (e : judged k s ≡ Accepted c) (g : judged k t ≡ Accepted d) (both : AllBoth k s t) where
   -- the last item of the one lies in the other
   reaches : Octets s → Octets t → checkPlace s ≤ checkPlace t
   reaches good fine =
       elim (below 3 (checkPlace s)) [
         | inl h ↦
             let w : In (next s) (items s) (checkPlace s - 1) = chain-covers (next s) (checkPlace s) (next-grows s) 3 (checkPlace s - 1) (omega arith) (omega arith) in
-            let o : Both (w .number) (w .place) = both (w .number) (w .place) (w .stands) in
+            let o : Both k s t (w .number) (w .place) = both (w .number) (w .place) (w .stands) in
             let n = nexts k s t good fine c d e g (w .number) (w .place) (w .stands) (o .too) (o .item) in
             omega (
               arith,
@@ -276,13 +255,13 @@ module _ (k : Kinds) (s t : List ℕ) (c d : ℕ) (e : judged k s ≡ Accepted c
         | inr h ↦ omega (arith, total-within k t d g .0)
       ]
 
-module _ (k : Kinds) (s t : List ℕ) (good : Octets s) (fine : Octets t) (c d : ℕ) (e : judged k s ≡ Accepted c) (g : judged k t ≡ Accepted d) (items-said : Shows k s t) (strings : (n : ℕ) → stringSaid s (stringNumbered k s n) ≡ stringSaid t (stringNumbered k t n)) where
+module _ (k : Kinds) (s t : List ℕ) (good : Octets s) (fine : Octets t) (c d : ℕ) (e : judged k s ≡ Accepted c) (g : judged k t ≡ Accepted d) (both : AllBoth k s t) (back : AllBoth k t s) (strings : (n : ℕ) → stringSaid s (stringNumbered k s n) ≡ stringSaid t (stringNumbered k t n)) where
   pub totals : total s ≡ total t
   totals =
       omega (
         arith,
-        reaches k s t c d e g items-said good fine,
-        reaches k t s d c g e (λ i. sym (items-said i)) fine good,
+        reaches k s t c d e g both good fine,
+        reaches k t s d c g e back fine good,
         total-within k s c e .0,
         total-within k t d g .0,
       )
@@ -291,7 +270,7 @@ module _ (k : Kinds) (s t : List ℕ) (good : Octets s) (fine : Octets t) (c d :
   inside q h l =
       let w : In (next s) (items s) q = chain-covers (next s) (checkPlace s) (next-grows s) 3 q h l in
       let p : ℕ = w .place in
-      let o : Both k s t c d e g items-said (w .number) p = both k s t c d e g items-said (w .number) p (w .stands) in
+      let o : Both k s t (w .number) p = both (w .number) p (w .stands) in
       elim (below q (dataAt s p)) [
         | inl x ↦ inl (head-told k s t good fine c d e g (w .number) p (w .stands) (o .too) (o .item) q (w .past) x)
         | inr x ↦ go (w .number) p (w .stands) (o .too) (o .item) (w .before) x (isKnown k s p) refl

@@ -1,7 +1,7 @@
 -- The rows of each tag leave no byte of its fields out, and their hidden ones are the indexes that the data begin with. By computation. Assumes nothing.
 use Prim.Native.Nat.{ℕ, _+_, _<_}
 use mathlib.Core.Logic.{inl, inr}
-use mathlib.Core.Path.{_≡_, refl}
+use mathlib.Core.Path.{refl}
 use native.Mathlib.Omega.{arith}
 use Rattle.octets.specs.Rows.{Gapless, HiddenIn}
 use Rattle.tiny_layout.specs.Tables.{table}
