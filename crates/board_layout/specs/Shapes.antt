@@ -1,6 +1,6 @@
 -- The tables of layout paper 000: which one a structure has, whether a reader knows it, its fixed part and its reserved field. Assumes nothing.
 use Prim.Native.Nat.{ℕ}
-use mathlib.Core.Bool.{Bool, true, false, cond}
+use mathlib.Core.Bool.{Bool, true, false, cond, _||_}
 use mathlib.Core.Path.{_≡_}
 use lib.Dec.{eqb}
 use Rattle.board_layout.specs.declared.Records.{Records}
@@ -32,6 +32,10 @@ shapeOf g major =
     (cond (eqb g brdInfo) BrdInfo
     (cond (eqb g promSig) PromSig
     (cond (eqb major 1) (listedShape g) Other))))
+
+-- "`$Eeprom$` (item 0), `$EeprMap`, `$BrdInfo` and `$PromSig` count as on every list"
+abbrev pub onEveryList : ℕ → Bool
+onEveryList g = eqb g eeprom || eqb g eeprMap || eqb g brdInfo || eqb g promSig
 
 -- whether a structure is known: "`$Eeprom$` (item 0), `$EeprMap`, `$BrdInfo` and `$PromSig` count as on every list". (Rule 25 refuses a later `$Eeprom$`.)
 abbrev pub knows : Kinds → Shape → Bool

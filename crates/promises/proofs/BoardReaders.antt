@@ -11,9 +11,9 @@ use Rattle.board.specs.Items.{itemAs}
 use Rattle.board.specs.Values.{itemFields, gpioRecordSaid}
 use Rattle.board.specs.declared.Item.{Item}
 use Rattle.board_layout.specs.Layout.{signatureAt, majorAt, shapeAt, structures, records}
-use Rattle.board_layout.specs.Shapes.{knows}
+use Rattle.board_layout.specs.Shapes.{knows, onEveryList}
 use Rattle.board_layout.specs.declared.Records.the-variants.{Gpio}
-use Rattle.board_layout.specs.laws.Shapes.{onEveryList, known-exactly}
+use Rattle.board_layout.specs.laws.Shapes.{known-exactly}
 use Rattle.board_rules.specs.Judged.{judged}
 use Rattle.chain.specs.Nth.{nth}
 use Rattle.chain.specs.declared.Found.{Found}

@@ -1,30 +1,26 @@
 -- What a reader answers about a board image tells each byte that an answer is about. Each byte lies in one structure, or between two; and there it is told by the
 -- rows of its table, by those of a record, or it is zero by a rule. Assumes nothing.
 use Prim.Native.Nat.{ℕ, _+_, _≤_, _<_}
-use mathlib.Core.Bool.{Bool, true, false, _&&_, false≢true}
+use mathlib.Core.Bool.{Bool, true, false, false≢true}
 use mathlib.Core.List.{List}
 use mathlib.Core.Logic.{_⊎_, inl, inr}
 use mathlib.Core.Path.{_≡_, refl, sym, ap, _∙_}
 use native.Mathlib.Omega.{arith}
 use lib.Dec.{eqb}
 use borrow.Author.Tests.{eqb-true, eqb-false}
-use Rattle.board.specs.Answers.{mapRecord, mapRecordIf, mapRecordNumbered, isGpio, gpioRecord}
+use Rattle.board.specs.Answers.{isGpio}
 use Rattle.board.specs.Items.{itemAt}
 use Rattle.board.specs.NotShown.{NotShown, check, unknown, reserved, recordReserved, following, VersionUnknown}
 use Rattle.board.specs.Shown.{recordShown}
-use Rattle.board.specs.Values.{mapRecordSaid, gpioRecordSaid}
 use Rattle.board.specs.Values as board
 use Rattle.board.specs.laws.Alike.{gpio-shape, map-shape}
 use Rattle.board.specs.laws.Both as place
-use Rattle.board.specs.laws.Rows.{map-record-rows, gpio-record-rows}
-use Rattle.board.specs.laws.Exactly.{gpio-by}
 use Rattle.board.specs.laws.Told.{SameShown, known-told, record-told}
 use Rattle.board_layout.specs.Layout.{minorAt, shapeAt, structLen, endAt, next, structures, mapAt, dataOffset, recordSize, records}
 use Rattle.board_layout.specs.Places.{VerMajor, Length, headSize, StructLen}
 use Rattle.board_layout.specs.Shapes.{shapeOf, knows, reservedFrom, reservedTo, HasRecords}
 use Rattle.board_layout.specs.declared.Records.{Records}
 use Rattle.board_layout.specs.declared.Records.the-variants.{Map, Gpio}
-use Rattle.board_layout.specs.declared.Shape.{Shape}
 use Rattle.board_layout.specs.declared.Shape.the-variants.{Eeprom, EeprMap, GpioDat}
 use Rattle.board_layout.specs.laws.Tables.{reserved-row}
 use Rattle.board_layout.specs.laws.Layout.{next-grows, record-size}
@@ -33,7 +29,6 @@ use Rattle.board_rules.specs.laws.Accepted.{header-is, structures-are}
 use Rattle.board_rules.specs.laws.Rows.{Placed, structures-placed}
 use Rattle.chain.specs.Chain.{ahead}
 use Rattle.chain.specs.Nth.{nth}
-use Rattle.chain.specs.declared.Found.{Found}
 use Rattle.chain.specs.declared.Found.the-variants.{At}
 use Rattle.chain.specs.laws.Below.{below}
 use Rattle.chain.specs.laws.Inside.{In, chain-covers}
@@ -43,6 +38,7 @@ use Rattle.kinds.specs.declared.Kind.the-variants.{Tag, Signature}
 use Rattle.kinds.specs.declared.Kinds.{Kinds}
 use Rattle.octets.specs.Bytes.{Octets, byte}
 use Rattle.octets.specs.laws.Same.{Same, le32-same}
+use Rattle.promises.proofs.Fields.{second, map-shown, gpio-shown}
 use Rattle.promises.proofs.Stand.{both-stand}
 use Rattle.promises.specs.Answers.{answers}
 use Rattle.promises.specs.Complete.{AgreeBut, SameFurther}
@@ -50,7 +46,6 @@ use Rattle.reader.specs.Formats.{judged}
 use Rattle.reader.specs.Values as reader
 use Rattle.reader.specs.Values.{FieldValues, ItemValues, boardFields}
 use Rattle.reader.specs.declared.Format.the-variants.{Board}
-use Rattle.verdict.specs.Said.{says}
 use Rattle.verdict.specs.declared.Judged as verdict
 
 -- ---- an item's signature and fields, out of its values
@@ -66,22 +61,6 @@ fieldsOf reader.notKnown = board.notKnown
 fields-back : (x : board.FieldValues) → fieldsOf (boardFields x) ≡ x
 fields-back (board.fields l) = refl
 fields-back board.notKnown = refl
-
--- ---- what is answered for a record of an accepted image
-module _ (k : Kinds) (s : List ℕ) (c : ℕ) (e : judged Board k s ≡ verdict.Judged.Accepted c) where
-  map-said : (m j r : ℕ) → m ≡ mapAt s → nth (records Map s m) j ≡ At r → answers Board k s .further .mapRecord j ≡ says (recordShown Map s r)
-  unfolding answers mapRecordNumbered
-  map-said m j r is stands =
-      ap (λ x. mapRecordSaid (mapRecordIf s j x)) e
-      ∙ ap (λ (f : Found). mapRecordSaid (mapRecord s f)) (ap (λ (x : ℕ). nth (records Map s x) j) (sym is) ∙ stands)
-      ∙ ap says (map-record-rows s r)
-
-  gpio-said : (i p j r : ℕ) → nth (structures s) i ≡ At p → knows k (shapeAt s p) ≡ true → shapeAt s p ≡ GpioDat → nth (records Gpio s p) j ≡ At r
-      → answers Board k s .further .gpioRecord i j ≡ says (recordShown Gpio s r)
-  unfolding answers
-  gpio-said i p j r at on is stands =
-      ap gpioRecordSaid (gpio-by k s c e i p at true (ap (λ (a : Shape). isGpio a && knows k a) is ∙ sym (ap (knows k) is) ∙ on) j)
-      ∙ ap (λ (f : Found). gpioRecordSaid (gpioRecord s f)) stands ∙ ap says (gpio-record-rows s r)
 
 -- ---- two images
 module _ (k : Kinds) (s t : List ℕ) (good : Octets s) (fine : Octets t) (c d : ℕ) (e : judged Board k s ≡ verdict.Judged.Accepted c) (g : judged Board k t ≡ verdict.Judged.Accepted d) (items : (i : ℕ) → answers Board k s .item i ≡ answers Board k t .item i) (further : SameFurther Board (answers Board k s .further) (answers Board k t .further)) where
@@ -194,9 +173,15 @@ module _ (k : Kinds) (s t : List ℕ) (good : Octets s) (fine : Octets t) (c d :
 
           told : (j r : ℕ) → nth (records Map s p) j ≡ At r → recordShown Map s r ≡ recordShown Map t r
           told j r stands =
-              let z = sym (map-said k s c e p j r (placed .map is) stands) ∙ further .0 j
-              ∙ map-said k t d g p j r placed-too
-              (ap (λ (l : List ℕ). nth l j) (sym (place.record-places k s t good fine c d e g i p at too item Map)) ∙ stands) in
+              let z = sym (map-shown k s c e j r (mapAt s, (second k s c e, ap (λ (m : ℕ). nth (records Map s m) j) (sym (placed .map is)) ∙ stands))) ∙ further .0 j
+              ∙ map-shown k t d g j r (
+                mapAt t,
+                (
+                  second k t d g,
+                  ap (λ (m : ℕ). nth (records Map t m) j) (sym placed-too)
+                      ∙ ap (λ (l : List ℕ). nth l j) (sym (place.record-places k s t good fine c d e g i p at too item Map)) ∙ stands,
+                ),
+              ) in
               cc
 
       gpio-byte : shapeAt s p ≡ GpioDat → p + reservedTo (shapeAt s p) ≤ q → q < endAt s p → Told
@@ -207,10 +192,16 @@ module _ (k : Kinds) (s t : List ℕ) (good : Octets s) (fine : Octets t) (c d :
         where
           told : (j r : ℕ) → nth (records Gpio s p) j ≡ At r → recordShown Gpio s r ≡ recordShown Gpio t r
           told j r stands =
-              let z = sym (gpio-said k s c e i p j r at on is stands) ∙ further .1 i j
-              ∙ gpio-said k t d g i p j r too (place.known-here k s t good fine c d e g i p at too item on)
-              (sym (place.shapes k s t good fine c d e g i p at too item on) ∙ is)
-              (ap (λ (l : List ℕ). nth l j) (sym (place.record-places k s t good fine c d e g i p at too item Gpio)) ∙ stands) in
+              let z = sym (gpio-shown k s c e i j r (p, (at, on, is, stands))) ∙ further .1 i j
+              ∙ gpio-shown k t d g i j r (
+                p,
+                (
+                  too,
+                  place.known-here k s t good fine c d e g i p at too item on,
+                  sym (place.shapes k s t good fine c d e g i p at too item on) ∙ is,
+                  ap (λ (l : List ℕ). nth l j) (sym (place.record-places k s t good fine c d e g i p at too item Gpio)) ∙ stands,
+                ),
+              ) in
               cc
 
       -- what follows the fields

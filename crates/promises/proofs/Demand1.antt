@@ -1,21 +1,20 @@
 -- Demand 1: what a refusal tells, that every call passes it on, and that no lent buffer changes. Assumes nothing.
 use Prim.Native.Nat.{ℕ}
 use mathlib.Core.List.{List}
-use mathlib.Core.Logic.{inl, inr}
+use mathlib.Core.Logic.{_↔_}
 use mathlib.Core.Path.{_≡_, refl, ap}
-use native.Mathlib.Omega.{arith}
 use lib.ListN.{length}
 use Rattle.board.specs.Answers.{mapRecordIf, mapRecordNumbered, gpioRecordIf, gpioRecordNumbered}
 use Rattle.board.specs.Values.{mapRecordSaid, gpioRecordSaid}
-use Rattle.board_rules.specs.Judged as board-rules
+use Rattle.board_rules.specs.laws.Table as board-table
 use Rattle.board_writer.specs.laws.Written as board-writer
 use Rattle.kinds.specs.declared.Kinds.{Kinds}
-use Rattle.promises.proofs.Verdicts.{refused-by}
+use Rattle.promises.proofs.Verdicts.{refused-by, says-refused}
 use Rattle.promises.specs.Answers.{furtherAnswers, answers}
-use Rattle.promises.specs.Demand1.{rules, RefusedFurther, RefusedWhole, Demand1}
+use Rattle.promises.specs.Demand1.{table, RefusedFurther, RefusedWhole, Demand1}
 use Rattle.reader.specs.Answers.{itemIf, itemNumbered, listAnswer, listHolds, listIf, listOf}
 use Rattle.reader.specs.Entries.{entries}
-use Rattle.reader.specs.Formats.{judged, places}
+use Rattle.reader.specs.Formats.{judged}
 use Rattle.reader.specs.Values.{itemSaid, stepSaid, listSaid}
 use Rattle.reader.specs.declared.Entry.{Entry}
 use Rattle.reader.specs.declared.Format.{Format}
@@ -26,28 +25,20 @@ use Rattle.tiny.specs.Answers.{stringIf, stringNumbered, nameIf, nameOf}
 use Rattle.tiny.specs.Values.{stringSaid, nameSaid}
 use Rattle.tiny.specs.laws.Exactly as tiny
 use Rattle.tiny.specs.declared.NameAnswer.{NameAnswer}
-use Rattle.tiny_rules.specs.Judged as tiny-rules
+use Rattle.tiny_rules.specs.laws.Table as tiny-table
 use Rattle.tiny_writer.specs.laws.Written as tiny-writer
 use Rattle.verdict.specs.Said.{refused}
-use Rattle.verdict.specs.Verdict.{refusal, answer}
+use Rattle.verdict.specs.Verdict.{refusal}
 use Rattle.verdict.specs.declared.Judged.{Judged}
-use Rattle.verdict.specs.declared.Judged.the-variants.{Accepted}
-use Rattle.verdict.specs.laws.Refused as verdict
-use Rattle.verdict.specs.laws.Refused.{Broken, Told}
+use Rattle.verdict.specs.Table.{FirstBroken}
 
--- ---- the rule named is broken there, and none before it
--- a table with nothing but an acceptance after it
-table-broken : (f : Format) (k : Kinds) (s : List ℕ) (c n p : ℕ) → answer (rules f k s) (Accepted c) ≡ refusal n p → Broken (rules f k s) n p
-table-broken f k s c n p e = go (verdict.refused-by (rules f k s) (Accepted c) n p e)
+-- ---- the judge goes by the table
+refused-exactly : (f : Format) (k : Kinds) (s : List ℕ) (n p : ℕ) → (answers f k s .judge ≡ refused n p) ↔ FirstBroken (table f k s) n p
+refused-exactly f k s n p = (λ e. by f .0 (refused-by f k s n p e), λ b. says-refused f k s n p (by f .1 b))
   where
-    go : Told (rules f k s) (Accepted c) n p → Broken (rules f k s) n p
-    go (inl b) = b
-    go (inr w) = let never : Accepted c ≡ refusal n p = w .1 in let z : _≡_ {A = ℕ} 0 1 = cc in absurd (omega arith)
-
-judged-broken : (f : Format) (k : Kinds) (s : List ℕ) (n p : ℕ) → judged f k s ≡ refusal n p → Broken (rules f k s) n p
-unfolding tiny-rules.judged board-rules.judged
-judged-broken Tiny k s n p e = table-broken Tiny k s (length (places Tiny s)) n p e
-judged-broken Board k s n p e = table-broken Board k s (length (places Board s)) n p e
+    by : (f : Format) → (judged f k s ≡ refusal n p) ↔ FirstBroken (table f k s) n p
+    by Tiny = tiny-table.refused-exactly k s n p
+    by Board = board-table.refused-exactly k s n p
 
 -- ---- every call passes the image's refusal on
 further-refused : (f : Format) (k : Kinds) (s : List ℕ) (n p : ℕ) → judged f k s ≡ refusal n p → RefusedFurther f (furtherAnswers f k s) n p
@@ -91,7 +82,7 @@ name-unchanged k s b n p e = go (nameOf k s b .0) refl e
 pub demand1 : Demand1
 demand1 =
     record {
-      broken = λ f k s n p e. judged-broken f k s n p (refused-by f k s n p e);
+      refusal = refused-exactly;
       everywhere = λ f k s n p e. whole-refused f k s n p (refused-by f k s n p e);
       list = list-unchanged;
       name = name-unchanged;

@@ -4,7 +4,7 @@ use mathlib.Core.List.{List}
 use mathlib.Core.Logic.{_↔_}
 use mathlib.Core.Path.{_≡_, ap, _∙_}
 use lib.ListN.{length}
-use Rattle.board_rules.specs.Judged as board-rules
+use Rattle.board_rules.specs.laws.Table as board-table
 use Rattle.board_writer.specs.laws.Rebuilt as board-rebuilt
 use Rattle.board_writer.specs.laws.Written as board-written
 use Rattle.chain.specs.Nth.{nth}
@@ -13,9 +13,10 @@ use Rattle.chain.specs.declared.Found.the-variants.{At}
 use Rattle.kinds.specs.Kinds.{full}
 use Rattle.kinds.specs.declared.Kinds.{Kinds}
 use Rattle.promises.proofs.Exactly.{texts-shown}
+use Rattle.promises.proofs.Fields.{fields-shown, pool-count, strings-shown, no-name, records-shown}
 use Rattle.promises.proofs.Verdicts.{accepted-by, says-count}
 use Rattle.promises.specs.Answers.{answers}
-use Rattle.promises.specs.Demand1.{rules}
+use Rattle.promises.specs.Demand1.{table}
 use Rattle.promises.specs.Demand2.{Demand2}
 use Rattle.reader.specs.Answers.{numbered, itemIf, itemNumbered}
 use Rattle.reader.specs.Formats.{judged, places}
@@ -23,34 +24,21 @@ use Rattle.reader.specs.Items.{poolOf, itemAt}
 use Rattle.reader.specs.Values.{itemValues, itemSaid}
 use Rattle.reader.specs.declared.Format.{Format}
 use Rattle.reader.specs.declared.Format.the-variants.{Tiny, Board}
-use Rattle.reader.specs.laws.Formats.{accepted-count}
-use Rattle.tiny.specs.Values.{nameSaid}
-use Rattle.tiny.specs.declared.NameAnswer.{NameAnswer}
-use Rattle.tiny.specs.laws.Resolved.{string-text, string-beyond, name-is-text}
-use Rattle.tiny_rules.specs.Judged as tiny-rules
+use Rattle.tiny_rules.specs.laws.Table as tiny-table
 use Rattle.tiny_writer.specs.laws.Rebuilt as tiny-rebuilt
 use Rattle.tiny_writer.specs.laws.Written as tiny-written
 use Rattle.verdict.specs.Said.{says}
 use Rattle.verdict.specs.declared.Judged.{Judged}
 use Rattle.verdict.specs.declared.Judged.the-variants.{Accepted}
-use Rattle.verdict.specs.laws.Accepted.{Clear, clear, passed}
+use Rattle.verdict.specs.Table.{Unbroken}
 
--- ---- the judge is the table, and then the count
-table-clear : (f : Format) (k : Kinds) (s : List ℕ) (n : ℕ) → judged f k s ≡ Accepted n → Clear (rules f k s)
-unfolding tiny-rules.judged board-rules.judged
-table-clear Tiny k s n e = clear (rules Tiny k s) (Accepted (length (places Tiny s))) n e
-table-clear Board k s n e = clear (rules Board k s) (Accepted (length (places Board s))) n e
-
-table-passed : (f : Format) (k : Kinds) (s : List ℕ) → Clear (rules f k s) → judged f k s ≡ Accepted (length (places f s))
-unfolding tiny-rules.judged board-rules.judged
-table-passed Tiny k s c = passed (rules Tiny k s) (Accepted (length (places Tiny s))) c
-table-passed Board k s c = passed (rules Board k s) (Accepted (length (places Board s))) c
-
-accepted-exactly : (f : Format) (k : Kinds) (s : List ℕ) (n : ℕ) → (answers f k s .judge ≡ says n) ↔ (Clear (rules f k s) × (length (places f s) ≡ n))
-accepted-exactly f k s n = (
-  λ e. let j = accepted-by f k s n e in (table-clear f k s n j, accepted-count f k s n j),
-  λ w. says-count f k s n (table-passed f k s (w .0) ∙ ap Accepted (w .1)),
-)
+-- ---- the judge goes by the table
+accepted-exactly : (f : Format) (k : Kinds) (s : List ℕ) (n : ℕ) → (answers f k s .judge ≡ says n) ↔ (Unbroken (table f k s) × (length (places f s) ≡ n))
+accepted-exactly f k s n = (λ e. by f .0 (accepted-by f k s n e), λ u. says-count f k s n (by f .1 u))
+  where
+    by : (f : Format) → (judged f k s ≡ Accepted n) ↔ (Unbroken (table f k s) × (length (places f s) ≡ n))
+    by Tiny = tiny-table.accepted-exactly k s n
+    by Board = board-table.accepted-exactly k s n
 
 -- ---- the item of a number is what the tables define at its place
 item-shown : (f : Format) (k : Kinds) (s : List ℕ) (n : ℕ) → judged f k s ≡ Accepted n → (i p : ℕ) → nth (places f s) i ≡ At p
@@ -66,10 +54,11 @@ demand2 =
       accepted = accepted-exactly;
       item = λ f k s n e. item-shown f k s n (accepted-by f k s n e);
       reference = λ k s n e on. texts-shown k s n (accepted-by Tiny k s n e) on;
-      string = λ k s n e. string-text k s n (accepted-by Tiny k s n e);
-      noString = λ k s n e. string-beyond k s n (accepted-by Tiny k s n e);
-      name = λ k s n e on p one b room.
-          ap (λ (a : NameAnswer × List ℕ). (nameSaid (a .0), a .1)) (name-is-text k s n (accepted-by Tiny k s n e) p one on b room);
+      fields = λ f k s n e. fields-shown f k s n (accepted-by f k s n e);
+      count = λ k s n e on. pool-count k s n (accepted-by Tiny k s n e) on;
+      strings = λ k s n e on. strings-shown k s n (accepted-by Tiny k s n e) on;
+      noName = λ k s n e. no-name k s n (accepted-by Tiny k s n e);
+      records = λ k s n e. records-shown k s n (accepted-by Board k s n e);
       tinyReadsBack = tiny-written.written-reads-back;
       boardReadsBack = λ x fits b n e. board-written.written-reads-back x b n e fits;
       tinyRebuilt = λ s n e small b. tiny-rebuilt.rebuilt s n (accepted-by Tiny full s n e) b small;

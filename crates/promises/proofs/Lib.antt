@@ -1,6 +1,7 @@
 -- The proofs of the demands. Assumes nothing.
 pub mod Verdicts
 pub mod Demand1
+pub mod Fields
 pub mod Demand2
 pub mod View
 pub mod Given

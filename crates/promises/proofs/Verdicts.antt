@@ -24,6 +24,10 @@ module _ (f : Format) (k : Kinds) (s : List ℕ) where
   unfolding answers
   says-count n e = ap judgedSaid e
 
+  pub says-refused : (n p : ℕ) → judged f k s ≡ refusal n p → answers f k s .judge ≡ refused n p
+  unfolding answers
+  says-refused n p e = ap judgedSaid e
+
   pub refused-by : (n p : ℕ) → answers f k s .judge ≡ refused n p → judged f k s ≡ refusal n p
   unfolding answers
   refused-by n p e = go (judged f k s) e

@@ -3,26 +3,26 @@
 -- `Demand1` is the second, and it is proved in proofs/Demand1. Assumes nothing.
 use Prim.Native.Nat.{ℕ}
 use mathlib.Core.List.{List}
+use mathlib.Core.Logic.{_↔_}
 use mathlib.Core.Path.{_≡_}
-use Rattle.board_rules.specs.Judged as board-rules
+use Rattle.board_rules.specs.Broken as board-rules
 use Rattle.board_writer.specs.Parts as board-parts
 use Rattle.board_writer.specs.Written as board-writer
-use Rattle.chain.specs.declared.Found.{Found}
 use Rattle.kinds.specs.declared.Kinds.{Kinds}
 use Rattle.promises.specs.Answers.{FurtherAnswers, Answers, answers}
 use Rattle.reader.specs.declared.Entry.{Entry}
 use Rattle.reader.specs.declared.Format.{Format}
 use Rattle.reader.specs.declared.Format.the-variants.{Tiny, Board}
-use Rattle.tiny_rules.specs.Judged as tiny-rules
+use Rattle.tiny_rules.specs.Broken as tiny-rules
 use Rattle.tiny_writer.specs.Image as tiny-parts
 use Rattle.tiny_writer.specs.Written as tiny-writer
 use Rattle.verdict.specs.Said.{refused, writeSaid}
-use Rattle.verdict.specs.laws.Refused.{Broken}
+use Rattle.verdict.specs.Table.{Row, FirstBroken}
 
--- the table of rules of a format, in its order
-abbrev pub rules : Format → Kinds → List ℕ → List (ℕ × Found)
-rules Tiny k s = tiny-rules.rules k s
-rules Board k s = board-rules.rules k s
+-- the table of rules of a format, row by row in its order: at which places each is broken
+abbrev pub table : Format → Kinds → List ℕ → List Row
+table Tiny k s = tiny-rules.table k s
+table Board k s = board-rules.table k s
 
 -- ---- an image that is refused with n at p
 -- the calls of one format
@@ -38,9 +38,9 @@ pub record RefusedWhole {f : Format} (a : Answers f) (n p : ℕ) : Type 0 where
   pub further : RefusedFurther f (a .further) n p
 
 pub record Demand1 : Type 0 where
-  -- "the one number and place that the build paper fixes": rule n of the table is broken at p, and no rule before it is. (Each rule gives the smallest place
-  -- where it is broken.)
-  pub broken : (f : Format) (k : Kinds) (s : List ℕ) (n p : ℕ) → answers f k s .judge ≡ refused n p → Broken (rules f k s) n p
+  -- "the one number and place that the build paper fixes": refused with n at p exactly when n is the first rule of the table that is broken anywhere, and p is the
+  -- smallest place where it is broken
+  pub refusal : (f : Format) (k : Kinds) (s : List ℕ) (n p : ℕ) → (answers f k s .judge ≡ refused n p) ↔ FirstBroken (table f k s) n p
   -- whatever is asked of the image, these are answered
   pub everywhere : (f : Format) (k : Kinds) (s : List ℕ) (n p : ℕ) → answers f k s .judge ≡ refused n p → RefusedWhole (answers f k s) n p
   -- "a refused call changes no byte in any buffer lent to it": the list, the name and the two writers, whatever the refusal

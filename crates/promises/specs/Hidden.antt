@@ -4,7 +4,7 @@ use Prim.Native.Nat.{ℕ}
 use mathlib.Core.Bool.{Bool, false, cond, _&&_, _||_}
 use mathlib.Core.List.{List, _++_, map}
 use lib.ListN.{take, drop}
-use Rattle.board_layout.specs.laws.Shapes.{onEveryList}
+use Rattle.board_layout.specs.Shapes.{onEveryList}
 use Rattle.kinds.specs.Kinds.{listed}
 use Rattle.kinds.specs.declared.Kind.{Kind}
 use Rattle.kinds.specs.declared.Kind.the-variants.{Tag, Signature}

@@ -1,5 +1,6 @@
 -- The statements of the demands, the definitions that they are stated with, and instances of demand 3. Assumes nothing.
 pub mod Answers
+pub mod Rows
 pub mod Hidden
 pub mod SameOutside
 pub mod Demand1

@@ -8,7 +8,7 @@ use mathlib.Core.Path.{_≡_}
 use lib.Dec.{eqb}
 use Rattle.board_layout.specs.Layout.{signatureAt, majorAt}
 use Rattle.board_layout.specs.Places.{Crc32}
-use Rattle.board_layout.specs.laws.Shapes.{onEveryList}
+use Rattle.board_layout.specs.Shapes.{onEveryList}
 use Rattle.chain.specs.Inside.{Inside}
 use Rattle.kinds.specs.Kinds.{listed}
 use Rattle.kinds.specs.declared.Kind.the-variants.{Tag, Signature}

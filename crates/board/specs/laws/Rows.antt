@@ -1,7 +1,7 @@
 -- What is shown of a known structure and of a record is, under each label of its table, the number or the bytes at that row. (So no field is left out, none is
 -- taken from another row, and no two labels are exchanged.) Assumes nothing.
 use Prim.Native.Nat.{ℕ}
-use mathlib.Core.Bool.{Bool, true, cond, false≢true}
+use mathlib.Core.Bool.{Bool, true, false, cond, false≢true}
 use mathlib.Core.List.{List}
 use mathlib.Core.Path.{_≡_, refl, ap, _∙_}
 use native.Mathlib.Numerals.{unary-clauses}
@@ -56,3 +56,8 @@ pub known-rows : (k : Kinds) (s : List ℕ) (p : ℕ) → knows k (shapeAt s p) 
 unfolding itemAt
 known-rows k s p h =
     ap (λ (b : Bool). itemFields (cond b (itemAs s p (shapeAt s p)) Item.NotKnown)) h ∙ structure-rows k s p (shapeAt s p) h
+
+-- and where it does not
+pub unknown-rows : (k : Kinds) (s : List ℕ) (p : ℕ) → knows k (shapeAt s p) ≡ false → itemFields (itemAt k s p .item) ≡ notKnown
+unfolding itemAt
+unknown-rows k s p h = ap (λ (b : Bool). itemFields (cond b (itemAs s p (shapeAt s p)) Item.NotKnown)) h

@@ -3,17 +3,13 @@ use Prim.Native.Nat.{ℕ}
 use mathlib.Core.Bool.{Bool, true, false, cond, _&&_, _||_, and-true, and-false}
 use mathlib.Core.Path.{_≡_, refl, sym, ap, _∙_}
 use lib.Dec.{eqb}
-use Rattle.board_layout.specs.Shapes.{listedShape, shapeOf, knows}
+use Rattle.board_layout.specs.Shapes.{listedShape, shapeOf, knows, onEveryList}
 use Rattle.board_layout.specs.declared.Shape.{Shape}
 use Rattle.board_layout.specs.declared.Shape.the-variants.{Eeprom, EeprMap, BrdInfo, PromSig, AcpiTbl, FpgaNfo, GpioDat, HdCodec, Logo, MemCnfg, MacInfo, UCode, Video, Other}
 use Rattle.kinds.specs.Kinds.{Contains, listed}
 use Rattle.kinds.specs.Signatures.{eeprom, eeprMap, brdInfo, promSig, acpiTbl, fpgaNfo, gpioDat, hdCodec, logo, memCnfg, macInfo, uCode, video}
 use Rattle.kinds.specs.declared.Kind.the-variants.{Signature}
 use Rattle.kinds.specs.declared.Kinds.{Kinds}
-
--- "`$Eeprom$` (item 0), `$EeprMap`, `$BrdInfo` and `$PromSig` count as on every list"
-abbrev pub onEveryList : ℕ → Bool
-onEveryList g = eqb g eeprom || eqb g eeprMap || eqb g brdInfo || eqb g promSig
 
 module _ (k : Kinds) where
   -- the four are known; any other structure is if its table is
