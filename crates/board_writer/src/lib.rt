@@ -24,7 +24,7 @@ ghost use mathlib.Core.Path.{_≡_};
 ghost use Prim.Native.Nat.{_+_, _*_, _/_, _≤_, _<_, min};
 ghost use lib.ListN.{length, take, drop};
 ghost use Rattle.board_writer.specs.Image.{headerOf, laidRecord, laidRecords, imageLength, body, image};
-ghost use Rattle.board_writer.specs.Parts.{parts, rule46, Fits};
+ghost use Rattle.board_writer.specs.Parts.{parts, rule46, Fits, OfBytes};
 ghost use Rattle.board_writer.specs.Written.{reviewed, written};
 ghost use Rattle.chain.specs.declared.Found.the-variants.{Nothing};
 ghost use Rattle.octets.specs.Put.{Holds};
@@ -190,7 +190,7 @@ fn write_parts(
 
 // Writes the image of these parts to the front of a lent buffer: its length; or the refusal, and then no byte is changed. A record of the run is
 // its label (sixteen bytes) and its address (one); the further bytes are whole structures, with their heads and what pads them. The numbers of
-// any call fit their fields, as the theorem on reading back asks.
+// any call fit their fields and its bytes are bytes, as the theorems on reading back and on refusals ask.
 pub fn write(
     version: u32,
     map: MapFields,
@@ -199,7 +199,7 @@ pub fn write(
     further: &[u8],
     buffer: &mut [u8],
 ) -> WriteAnswer
-    ensures { λ r. ⌜ ((r, now (buffer .exit)) ≡ written (parts version map (now (records .entry)) board (now (further .entry))) (now (buffer .entry))) × Fits (parts version map (now (records .entry)) board (now (further .entry))) ⌝ }
+    ensures { λ r. ⌜ ((r, now (buffer .exit)) ≡ written (parts version map (now (records .entry)) board (now (further .entry))) (now (buffer .entry))) × Fits (parts version map (now (records .entry)) board (now (further .entry))) × OfBytes (parts version map (now (records .entry)) board (now (further .entry))) ⌝ }
 {
     write_parts(version, map, records, board, further, buffer)
 }

@@ -61,6 +61,6 @@ demand2 =
       records = λ k s n e. records-shown k s n (accepted-by Board k s n e);
       tinyReadsBack = tiny-written.written-reads-back;
       boardReadsBack = λ x fits b n e. board-written.written-reads-back x b n e fits;
-      tinyRebuilt = λ s n e small b. tiny-rebuilt.rebuilt s n (accepted-by Tiny full s n e) b small;
+      tinyRebuilt = λ s n e octets b. tiny-rebuilt.rebuilt s n (accepted-by Tiny full s n e) b (octets 2);
       boardRebuilt = λ s n e r octets. board-rebuilt.rebuilt s n (accepted-by Board full s n e) r octets;
     }

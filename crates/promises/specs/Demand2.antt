@@ -1,6 +1,7 @@
 -- Demand 2: "An image is accepted exactly when the rules of the layout papers and the build paper hold. Each field shown is the field those rules define. What
 -- the writers write is accepted and reads back as given; an accepted image that a writer can make is rebuilt to the last byte." `Demand2` is the claim; it is
--- proved in proofs/Demand2. Assumes nothing.
+-- proved in proofs/Demand2. Two premises are met by the types of every call, and contracts say so: an image is of bytes (`Octets`: the contract of
+-- `reader::judge`), and what a board is written of fits its fields (`Fits`: that of `board_writer::write`). Assumes nothing.
 use Prim.Native.Nat.{ℕ, _+_, _<_, _≤_}
 use mathlib.Core.Bool.{true, false}
 use mathlib.Core.List.{List, [], _++_}
@@ -103,8 +104,8 @@ pub record Demand2 : Type 0 where
   pub boardReadsBack : (x : board-parts.Parts) → board-parts.Fits x → (b : List ℕ) (n : ℕ) → writeSaid (board-writer.written x b .0) ≡ says n
       → (m : ℕ) → n ≤ m → m ≤ 65536 → board-back.ReadsBack x (take m (board-writer.written x b .1))
   -- "an accepted image that a writer can make is rebuilt to the last byte": "if it is tiny, or a board without `$PromSig` and with minor 0 in its first three
-  -- structures". (L is a byte, and images are of bytes.)
-  pub tinyRebuilt : (s : List ℕ) (n : ℕ) → answers Tiny full s .judge ≡ says n → total s < 256 → (b : List ℕ) → total s ≤ length b
+  -- structures".
+  pub tinyRebuilt : (s : List ℕ) (n : ℕ) → answers Tiny full s .judge ≡ says n → Octets s → (b : List ℕ) → total s ≤ length b
       → (writeSaid (tiny-writer.written (tiny-read.partsOf s) b .0) ≡ says (total s))
       × (tiny-writer.written (tiny-read.partsOf s) b .1 ≡ take (total s) s ++ drop (total s) b)
   pub boardRebuilt : (s : List ℕ) (n : ℕ) → answers Board full s .judge ≡ says n → board-read.Rebuildable s → Octets s → (b : List ℕ) → structLen s ≤ length b

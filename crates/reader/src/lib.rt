@@ -4,6 +4,7 @@ use kinds::Kinds;
 use verdict::Judged;
 use verdict::Refusal;
 ghost use mathlib.Core.Path.{_≡_};
+ghost use Rattle.octets.specs.Bytes.{Octets};
 ghost use Rattle.reader.specs.Formats.{judged};
 
 mod entries;
@@ -76,9 +77,10 @@ pub struct Walk<'a> {
     pub shows: StepAnswer,
 }
 
-// Whether an image is accepted by a reader with this list, and how many items it has; or the refusal.
+// Whether an image is accepted by a reader with this list, and how many items it has; or the refusal. What is lent is of bytes: so much of every image that is
+// asked about is known without a premise.
 pub fn judge(format: Format, image: &[u8], kinds: Kinds) -> Judged
-    ensures { λ r. ⌜ r ≡ judged format kinds (now (image .entry)) ⌝ }
+    ensures { λ r. ⌜ (r ≡ judged format kinds (now (image .entry))) × Octets (now (image .entry)) ⌝ }
 {
     match format {
         Format::Tiny => tiny_rules::judge(image, kinds),

@@ -1,8 +1,9 @@
--- `write` meets its contract: the numbers that it is given have the bounds of their types. Assumes nothing.
+-- `write` meets its contract: the numbers and bytes that it is given have the bounds of their types. Assumes nothing.
 use borrow.Author.Needs.{needs}
 use Rattle.board_writer.proofs.write.Statement.{statement}
 use Rattle.board_writer.proofs.write.Tie as tie
 use native.Mathlib.Omega.{arith}
+use Rattle.octets.specs.laws.Octets.{sixteen-octets}
 
 write-parts-requires : tie.Need-write-parts-requires
 write-parts-requires c κs = search needs
@@ -23,6 +24,18 @@ returns c =
         boardId = omega (arith, board);
         fabId = omega (arith, board);
         ecId = omega (arith, board);
+      },
+      record {
+        partLabel = sixteen-octets _ (omega (arith, map));
+        busNumber = omega (arith, map);
+        master = omega (arith, map);
+        speed = omega (arith, map);
+        records = λ p. omega (arith, c .before .before .before .before .before .before .shared-slice-known .given p);
+        manuName = sixteen-octets _ (omega (arith, board .1 .1 .0));
+        brdName = sixteen-octets _ (omega (arith, board .1 .1 .1 .0));
+        brdSerial = sixteen-octets _ (omega (arith, board .1 .1 .1 .1 .0));
+        boardType = omega (arith, board);
+        further = λ p. omega (arith, c .before .before .before .before .before .shared-slice-known2 .given p);
       },
     )
 

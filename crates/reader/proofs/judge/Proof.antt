@@ -1,5 +1,6 @@
--- `judge` meets its contract: the arm of each format. Assumes nothing.
+-- `judge` meets its contract: the arm of each format, and each element of a slice of u8 is below 256. Assumes nothing.
 use borrow.Author.Needs.{needs}
+use native.Mathlib.Omega.{arith}
 use Rattle.reader.proofs.judge.Statement.{statement}
 use Rattle.reader.proofs.judge.Tie as tie
 
@@ -16,10 +17,16 @@ judge-requires-2 : tie.Need-judge-requires-2
 judge-requires-2 c κs = search needs
 
 returns : tie.Need-returns
-returns c = rw (c .before .enum-told .given .1) (c .judge .ensures)
+returns c = (
+  rw (c .before .enum-told .given .1) (c .judge .ensures),
+  λ p. omega (arith, c .before .before .before .shared-slice-known .given p),
+)
 
 returns-2 : tie.Need-returns-2
-returns-2 c = rw (c .before .enum-told2 .given .1) (c .judge2 .ensures)
+returns-2 c = (
+  rw (c .before .enum-told2 .given .1) (c .judge2 .ensures),
+  λ p. omega (arith, c .before .before .before .shared-slice-known .given p),
+)
 
 pub judge-spec : {M : Type 1} → statement M
 judge-spec =

@@ -16,7 +16,7 @@ first-place-requires : tie.Need-first-place-requires
 first-place-requires c κs = search needs
 
 returns : tie.Need-returns
-returns c = rw (c .first-place .ensures, c .before .items-end .ensures, c .before .before .pool-of .ensures, c .before .before .before .judge .ensures)
+returns c = rw (c .first-place .ensures, c .before .items-end .ensures, c .before .before .pool-of .ensures, c .before .before .before .judge .ensures .0)
 
 pub first-position-spec : {M : Type 1} → statement M
 first-position-spec =
