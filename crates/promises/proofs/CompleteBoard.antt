@@ -13,7 +13,7 @@ use Rattle.board.specs.Items.{itemAt}
 use Rattle.board.specs.NotShown.{NotShown, check, unknown, reserved, recordReserved, following, VersionUnknown}
 use Rattle.board.specs.Shown.{recordShown}
 use Rattle.board.specs.Values as board
-use Rattle.board.specs.laws.Alike.{gpio-shape, map-shape}
+use Rattle.board.specs.laws.AlikeBytes.{gpio-shape, map-shape}
 use Rattle.board.specs.laws.Both as place
 use Rattle.board.specs.laws.Told.{SameShown, known-told, record-told}
 use Rattle.board_layout.specs.Layout.{minorAt, shapeAt, structLen, endAt, next, structures, mapAt, dataOffset, recordSize, records}

@@ -10,7 +10,7 @@ use lib.ListN.{length}
 use Rattle.board.specs.Answers.{mapRecord, mapRecordIf, mapRecordNumbered, isGpio, gpioRecord, gpioRecordsAt, gpioRecordIf, gpioRecordNumbered}
 use Rattle.board.specs.Shown.{recordShown}
 use Rattle.board.specs.Values.{mapRecordSaid, gpioRecordSaid}
-use Rattle.board.specs.laws.Alike.{gpio-shape}
+use Rattle.board.specs.laws.AlikeBytes.{gpio-shape}
 use Rattle.board.specs.laws.Rows as board-rows
 use Rattle.board_layout.specs.Layout.{shapeAt, structures, mapAt, records}
 use Rattle.board_layout.specs.Shapes.{knows}

@@ -8,6 +8,7 @@ use Rattle.board.specs.Values.{mapRecordSaid, gpioRecordSaid}
 use Rattle.board.specs.declared.ShownItem as board-shown
 use Rattle.board.specs.NotShown as board-shows
 use Rattle.board.specs.laws.Alike as board
+use Rattle.board.specs.laws.AlikeBytes.{Alike, head-alike}
 use Rattle.board_layout.specs.Layout.{signatureAt, majorAt, shapeAt, structures}
 use Rattle.board_layout.specs.Places.{headSize}
 use Rattle.board_layout.specs.Shapes.{knows}
@@ -94,7 +95,7 @@ module _ (k : Kinds) (s t : List ℕ) (c d : ℕ) (e : judged Tiny k s ≡ Accep
       shown : tiny-values.ItemValues → ItemValues
       shown v = record { kind = Tag (v .kind); place = v .place; length = v .length; fields = tinyFields (v .fields) }
 
-module _ (k : Kinds) (s t : List ℕ) (c d : ℕ) (e : judged Board k s ≡ Accepted c) (g : judged Board k t ≡ Accepted d) (alike : board.Alike k s t) where
+module _ (k : Kinds) (s t : List ℕ) (c d : ℕ) (e : judged Board k s ≡ Accepted c) (g : judged Board k t ≡ Accepted d) (alike : Alike k s t) where
   board-seen : SeenAlike Board k s t
   unfolding entryAt
   board-seen =
@@ -104,7 +105,7 @@ module _ (k : Kinds) (s t : List ℕ) (c d : ℕ) (e : judged Board k s ≡ Acce
         entries =
             all-of-nth (λ p. entryAt Board k s p ≡ entryAt Board k t p) (structures s)
             (λ i p at x.
-            let head = board.head-alike k s t c e alike i p at in
+            let head = head-alike k s t c e alike i p at in
             record {
               kind = signature-same s t p head x;
               place = p;

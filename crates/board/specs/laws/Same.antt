@@ -8,7 +8,8 @@ use mathlib.Core.Path.{_≡_, refl}
 use native.Mathlib.Omega.{arith}
 use lib.ListN.{length}
 use Rattle.board.specs.Answers.{itemIf, itemNumbered, mapRecordIf, mapRecordNumbered, gpioRecordIf, gpioRecordNumbered}
-use Rattle.board.specs.laws.Alike.{Alike, numbered-alike, map-record-alike, gpio-record-alike}
+use Rattle.board.specs.laws.AlikeBytes.{Alike}
+use Rattle.board.specs.laws.Alike.{numbered-alike, map-record-alike, gpio-record-alike}
 use Rattle.board_layout.specs.Layout.{structLen}
 use Rattle.board_layout.specs.laws.Same.{struct-len-same}
 use Rattle.board_rules.specs.Judged.{judged}
