@@ -3,6 +3,8 @@ pub mod Parts
 pub mod Image
 pub mod Written
 pub mod PartsOf
+pub mod ReadsBack
+pub mod Shown
 pub mod ExampleParts
 pub mod Examples
 pub mod laws

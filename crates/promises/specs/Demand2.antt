@@ -14,8 +14,8 @@ use Rattle.board_layout.specs.Shapes.{knows, HasRecords}
 use Rattle.board_layout.specs.declared.Records.the-variants.{Map, Gpio}
 use Rattle.board_writer.specs.Parts as board-parts
 use Rattle.board_writer.specs.PartsOf as board-read
+use Rattle.board_writer.specs.ReadsBack as board-back
 use Rattle.board_writer.specs.Written as board-writer
-use Rattle.board_writer.specs.laws.Written as board-back
 use Rattle.chain.specs.Keep.{only}
 use Rattle.chain.specs.Nth.{nth}
 use Rattle.chain.specs.declared.Found.the-variants.{At, Nothing}
@@ -40,8 +40,8 @@ use Rattle.tiny_layout.specs.Pool.{pool}
 use Rattle.tiny_layout.specs.Strings.{texts}
 use Rattle.tiny_writer.specs.Image as tiny-parts
 use Rattle.tiny_writer.specs.PartsOf as tiny-read
+use Rattle.tiny_writer.specs.ReadsBack as tiny-back
 use Rattle.tiny_writer.specs.Written as tiny-writer
-use Rattle.tiny_writer.specs.laws.Written as tiny-back
 use Rattle.verdict.specs.Said.{says, refused, writeSaid}
 use Rattle.verdict.specs.Table.{Unbroken}
 

@@ -3,6 +3,7 @@ pub mod Run
 pub mod Image
 pub mod Written
 pub mod PartsOf
+pub mod ReadsBack
 pub mod Building
 pub mod Examples
 pub mod laws

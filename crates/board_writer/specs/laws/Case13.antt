@@ -12,12 +12,13 @@ use Rattle.board_writer.specs.Examples.{computed}
 use Rattle.board_writer.specs.Image.{image}
 use Rattle.board_writer.specs.Parts.{Fits, OfBytes}
 use Rattle.board_writer.specs.PartsOf.{partsOf, Rebuildable}
+use Rattle.board_writer.specs.ReadsBack.{ReadsBack}
 use Rattle.board_writer.specs.Written.{written}
 use Rattle.board_writer.specs.laws.CheckFields.{check-fields-hold}
 use Rattle.board_writer.specs.laws.Octets.{body-octets}
 use Rattle.board_writer.specs.laws.Reader.{Answers, written-answers}
 use Rattle.board_writer.specs.laws.Rebuilt.{rebuilt}
-use Rattle.board_writer.specs.laws.Written.{ReadsBack, written-reads-back, buffer-reads-back}
+use Rattle.board_writer.specs.laws.Written.{written-reads-back, buffer-reads-back}
 use Rattle.chain.specs.Chain.{visit, chain}
 use Rattle.chain.specs.Fill.{tab}
 use Rattle.chain.specs.First.{first, when}
@@ -34,7 +35,7 @@ use Rattle.verdict.specs.declared.WriteAnswer.{WriteAnswer}
 
 -- ---- what is written reads back
 -- each number fits its field
-fits13 : Fits parts13
+pub fits13 : Fits parts13
 fits13 =
     record {
       version = omega arith;
@@ -47,7 +48,7 @@ fits13 =
     }
 
 -- a length is answered
-told13 : writeSaid (written parts13 (blank 0xE2) .0) ≡ says 0xE0
+pub told13 : writeSaid (written parts13 (blank 0xE2) .0) ≡ says 0xE0
 told13 = ap (λ (w : WriteAnswer × List ℕ). writeSaid (w .0)) (computed .written13)
 
 -- the image alone, and the whole buffer

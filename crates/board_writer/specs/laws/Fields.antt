@@ -7,44 +7,19 @@ use native.Mathlib.Omega.{arith}
 use lib.ListN.{length}
 use Rattle.board.specs.Items.{restAt, eeprMapAt, brdInfoAt}
 use Rattle.board.specs.Records.{mapRecordAt}
-use Rattle.board.specs.declared.EeprMapFields.{EeprMapFields}
-use Rattle.board.specs.declared.MapRecord.{MapRecord}
 use Rattle.board_layout.specs.Layout.{lengthAt}
 use Rattle.board_layout.specs.Places.{Crc32, CrcLength, Version, ManuName, BrdName, BrdSerial, BoardId, FabId, EcId, BoardType, PartLabel, BlkLength, PageSize, PartSize, BusNumber, Master, Speed, MapData, MapLabel, MapLength, MapOffset, Address, mapRecordSize}
 use Rattle.board_writer.specs.Image.{laidRecord, imageLength, laid, mapPlace, recordPlace, boardPlace, furtherPlace}
-use Rattle.board_writer.specs.Parts.{Parts, Fits, givenSize, recordCount}
+use Rattle.board_writer.specs.Parts.{Parts, Fits, recordCount}
+use Rattle.board_writer.specs.Shown.{mapShown, recordShown}
 use Rattle.board_writer.specs.laws.Blocks.{header-lies, map-lies, record-lies, board-lies, further-lies}
 use Rattle.board_writer.specs.laws.Length.{headerBlock, mapBlock, recordBlock, boardBlock}
 use Rattle.octets.specs.laws.Lies.{Lies, lies-run, le16-in, le32-in, sixteen-in}
 use Rattle.board_writer.specs.laws.Places.{map-head}
 use Rattle.chain.specs.Fill.{tab}
-use Rattle.octets.specs.Bytes.{byte, run, spelled, le16, le32}
+use Rattle.octets.specs.Bytes.{run, spelled, le16, le32}
 use Rattle.octets.specs.Runs.{sixteenAt}
 use Rattle.octets.specs.laws.Spelled.{little-spelled}
-
--- the map as it is shown
-abbrev pub mapShown : Parts → EeprMapFields
-mapShown x =
-    record {
-      partlabel = x .map .partlabel;
-      blklength = x .map .blklength;
-      pagesize = x .map .pagesize;
-      partsize = x .map .partsize;
-      busnumber = x .map .busnumber;
-      master = x .map .master;
-      speed = x .map .speed;
-      mapdata = record { place = mapPlace + MapData; length = mapRecordSize * recordCount x };
-    }
-
--- record k: "Record k has Offset k x BlkLength"
-abbrev pub recordShown : Parts → ℕ → MapRecord
-recordShown x k =
-    record {
-      maplabel = sixteenAt (x .records) (givenSize * k);
-      length = mapRecordSize;
-      offset = record { 0 = k * x .map .blklength };
-      address = record { 0 = byte (x .records) (givenSize * k + 16) };
-    }
 
 module _ (x : Parts) (check covers : ℕ) (rest : List ℕ) where
   abbrev s : List ℕ

@@ -14,10 +14,12 @@ use Rattle.board_rules.specs.Rules.{promSigAt, headerLength}
 use Rattle.board_rules.specs.laws.Shorter.{shorter-accepts}
 use Rattle.board_writer.specs.Image.{mapLength, imageLength, crcLength, check, image, boardLength, mapPlace, boardPlace, furtherPlace}
 use Rattle.board_writer.specs.Parts.{Parts, Fits, recordCount}
+use Rattle.board_writer.specs.ReadsBack.{ReadsBack}
+use Rattle.board_writer.specs.Shown.{itemShown, headerShown, mapShown, recordShown}
 use Rattle.board_writer.specs.Written.{written}
-use Rattle.board_writer.specs.laws.Fields.{mapShown, recordShown, further-read}
-use Rattle.board_writer.specs.laws.Shown.{itemShown, headerShown, header-shown, map-shown, board-shown, record-shown, records-end}
-use Rattle.board_writer.specs.laws.Written.{ReadsBack, Writable, written-exactly, written-front, written-reads-back}
+use Rattle.board_writer.specs.laws.Fields.{further-read}
+use Rattle.board_writer.specs.laws.Shown.{header-shown, map-shown, board-shown, record-shown, records-end}
+use Rattle.board_writer.specs.laws.Written.{Writable, written-exactly, written-front, written-reads-back}
 use Rattle.chain.specs.declared.Found.the-variants.{Nothing}
 use Rattle.kinds.specs.Kinds.{full}
 use Rattle.kinds.specs.Signatures.{eeprom, eeprMap, brdInfo}

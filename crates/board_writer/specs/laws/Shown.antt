@@ -8,12 +8,10 @@ use native.Mathlib.Nat.{mul-le-mul-right}
 use native.Mathlib.Omega.{arith}
 use Rattle.board.specs.Answers.{beyond, numbered, itemIf, itemNumbered, mapRecord, mapRecordIf, mapRecordNumbered}
 use Rattle.board.specs.Items.{eepromAt, eeprMapAt, known, itemAs, itemAt}
-use Rattle.board.specs.declared.EepromFields.{EepromFields}
 use Rattle.board.specs.declared.Fields.{Fields}
 use Rattle.board.specs.declared.Item.{Item}
 use Rattle.board.specs.declared.ItemAnswer.{ItemAnswer}
 use Rattle.board.specs.declared.MapRecordAnswer.{MapRecordAnswer}
-use Rattle.board.specs.declared.ShownItem.{ShownItem}
 use Rattle.board_layout.specs.Layout.{shapeAt, structLen, structures, mapAt, records, mapCount}
 use Rattle.board_layout.specs.Places.{headSize, CrcLength, BlkLength, PartSize}
 use Rattle.board_layout.specs.Shapes.{shapeOf, knows}
@@ -25,7 +23,8 @@ use Rattle.board_rules.specs.laws.Accepted.{structures-are, check-holds}
 use Rattle.board_rules.specs.laws.Fields.{map-fields}
 use Rattle.board_writer.specs.Image.{mapLength, imageLength, laid, boardLength, mapPlace, recordPlace, boardPlace}
 use Rattle.board_writer.specs.Parts.{Parts, Fits, recordCount}
-use Rattle.board_writer.specs.laws.Fields.{mapShown, recordShown, version-read, map-read, record-read, board-read}
+use Rattle.board_writer.specs.Shown.{itemShown, headerShown, mapShown, recordShown}
+use Rattle.board_writer.specs.laws.Fields.{version-read, map-read, record-read, board-read}
 use Rattle.board_writer.specs.laws.Places.{Head, header-head, map-head, board-head, struct-len-is, map-at, board-at, records-at}
 use Rattle.chain.specs.Fill.{tab}
 use Rattle.chain.specs.Nth.{nth}
@@ -37,20 +36,6 @@ use Rattle.kinds.specs.Signatures.{eeprom, eeprMap, brdInfo}
 use Rattle.kinds.specs.declared.Kinds.{Kinds}
 use Rattle.octets.specs.Bytes.{le32}
 use Rattle.verdict.specs.declared.Judged.the-variants.{Accepted}
-
--- a structure of VerMajor 1 and VerMinor 0 as it is shown, with its signature, place, Length and fields
-abbrev pub itemShown : ℕ → ℕ → ℕ → Fields → ShownItem
-itemShown signature place size fields =
-    record {
-      signature = signature;
-      place = place;
-      length = size - headSize;
-      item = Item.Known (record { major = 1; minor = 0; length = size; fields = fields });
-    }
-
--- the header, where no `$PromSig` cuts the check short
-abbrev pub headerShown : Parts → EepromFields
-headerShown x = record { structlen = imageLength x; crclength = imageLength x; version = x .version }
 
 -- a known structure with such a head
 item-known : (k : Kinds) (s : List ℕ) (p g n : ℕ) (a : Shape) (f : Fields) → Head s p g n → shapeOf g 1 ≡ a → knows k a ≡ true

@@ -11,6 +11,7 @@ use Rattle.board_rules.specs.Rules.{promSigAt}
 use Rattle.board_writer.specs.Image.{imageLength, image}
 use Rattle.board_writer.specs.Parts.{Parts, Fits, rule46}
 use Rattle.board_writer.specs.PartsOf.{partsOf}
+use Rattle.board_writer.specs.ReadsBack.{ReadsBack}
 use Rattle.board_writer.specs.Written.{writerRules, reviewed, checked, written}
 use Rattle.board_writer.specs.laws.Back.{parts-image}
 use Rattle.board_writer.specs.laws.Front.{front-accepted, front-signed}
@@ -76,13 +77,6 @@ module _ (x : Parts) (buffer : List ℕ) (n : ℕ) where
   written-exactly = (writable, told)
 
 -- ---- what is read of it
--- bytes whose front is an image of these parts: what a reader with the full list finds there
-pub record ReadsBack (x : Parts) (s : List ℕ) : Type 0 where
-  pub count : ℕ
-  pub accepted : judged full s ≡ Accepted count
-  pub unsigned : promSigAt s ≡ Nothing
-  pub same : partsOf s ≡ x
-
 module _ (x : Parts) (buffer : List ℕ) (n : ℕ) (e : writeSaid (written x buffer .0) ≡ says n) where
   -- what the answer tells
   abbrev w : Writable x buffer n

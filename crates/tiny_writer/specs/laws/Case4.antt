@@ -6,9 +6,10 @@ use native.Mathlib.Omega.{arith}
 use lib.ListN.{take, drop}
 use Rattle.tiny_writer.specs.Examples.{blank, case4, parts4, computed}
 use Rattle.tiny_writer.specs.PartsOf.{partsOf}
+use Rattle.tiny_writer.specs.ReadsBack.{ReadsBack}
 use Rattle.tiny_writer.specs.Written.{written}
 use Rattle.tiny_writer.specs.laws.Rebuilt.{rebuilt}
-use Rattle.tiny_writer.specs.laws.Written.{ReadsBack, written-reads-back}
+use Rattle.tiny_writer.specs.laws.Written.{written-reads-back}
 use Rattle.verdict.specs.Said.{says, writeSaid}
 use Rattle.verdict.specs.declared.WriteAnswer.{WriteAnswer}
 

@@ -1,6 +1,6 @@
 -- What is written is accepted and reads back: the buffer after a call that answers a length is accepted with the full list, the count is that of the run's
 -- items and the pool, and the run and the pool read from it are those given. Assumes nothing.
-use Prim.Native.Nat.{ℕ, _+_, _≤_}
+use Prim.Native.Nat.{ℕ, _≤_}
 use mathlib.Core.List.{List, _++_}
 use mathlib.Core.Path.{_≡_, refl, sym, ap, subst, _∙_}
 use native.Mathlib.Omega.{arith}
@@ -12,9 +12,9 @@ use Rattle.tiny_rules.specs.Judged.{judged}
 use Rattle.tiny_rules.specs.laws.Accepted.{accepted-count, total-within}
 use Rattle.tiny_rules.specs.laws.Same.{judged-same}
 use Rattle.chain.specs.laws.Checks.{kept-under}
-use Rattle.tiny_writer.specs.Image.{Parts, poolItems, imageLength, image}
-use Rattle.tiny_writer.specs.PartsOf.{partsOf}
-use Rattle.tiny_writer.specs.Run.{runItems, rule46}
+use Rattle.tiny_writer.specs.Image.{Parts, imageLength, image}
+use Rattle.tiny_writer.specs.ReadsBack.{ReadsBack}
+use Rattle.tiny_writer.specs.Run.{rule46}
 use Rattle.tiny_writer.specs.Written.{writerRules, checked, written}
 use Rattle.tiny_writer.specs.laws.Image.{image-length, image-count, parts-image}
 use Rattle.verdict.specs.Said.{Said, says, refused, writeSaid}
@@ -22,11 +22,6 @@ use Rattle.verdict.specs.Written.{writtenIf}
 use Rattle.verdict.specs.declared.Judged.{Judged}
 use Rattle.verdict.specs.declared.Judged.the-variants.{Accepted, Refused}
 use Rattle.verdict.specs.laws.Accepted.{Clear, clear, after}
-
--- a buffer whose front is an image of these parts: what a reader with the full list finds there
-pub record ReadsBack (x : Parts) (s : List ℕ) : Type 0 where
-  pub accepted : judged full s ≡ Accepted (length (runItems (x .run)) + length (poolItems (x .pool)))
-  pub same : partsOf s ≡ x
 
 -- the image of a run without a bad item, where it is accepted: it reads back, whatever bytes follow it
 image-reads-back :
