@@ -3,6 +3,7 @@ pub mod Answers
 pub mod Rows
 pub mod Hidden
 pub mod SameOutside
+pub mod ReadBack
 pub mod Demand1
 pub mod Demand2
 pub mod Demand3
