@@ -1,19 +1,22 @@
 -- The laws of the elements that pass a test and of the only place among them. Along a chain two searches tell the only one: the first place that
 -- passes, and the first after that one. Assumes nothing.
-use Prim.Native.Nat.{ℕ, _<_}
+use Prim.Native.Nat.{ℕ, zero, suc, _<_}
 use mathlib.Core.Bool.{Bool, true, false, cond}
 use mathlib.Core.List.{List, [], _∷_, _++_, append-nil}
-use mathlib.Core.Path.{_≡_, refl, sym, ap, _∙_}
+use mathlib.Core.Path.{_≡_, refl, sym, ap, ap₂, _∙_}
+use native.Mathlib.Omega.{arith}
 use Rattle.chain.specs.All.{All}
 use Rattle.chain.specs.Chain.{chain}
 use Rattle.chain.specs.First.{orElse, when, first, search}
 use Rattle.chain.specs.Keep.{keep, only}
+use Rattle.chain.specs.Nth.{nth}
 use Rattle.chain.specs.declared.Found.{Found}
 use Rattle.chain.specs.declared.Found.the-variants.{At, Nothing}
 use Rattle.chain.specs.laws.All.{all-map}
 use Rattle.chain.specs.laws.Chain.{chain-more, chain-ind}
 use Rattle.chain.specs.laws.First.{at-nothing, when-nothing, first-all}
 use Rattle.chain.specs.laws.Loops.{search-end, search-more}
+use Rattle.chain.specs.laws.Nth.{all-of-nth}
 
 module _ {A : Type 0} where
   -- two tests that agree along the list keep the same
@@ -67,6 +70,31 @@ unfolding only
 only-all P [] p a e = absurd (at-nothing (sym e))
 only-all P (x ∷ []) p a e = let d : x ≡ p = cc in rw d at (a .0)
 only-all P (x ∷ (y ∷ ys)) p a e = absurd (at-nothing (sym e))
+
+-- ---- the only place that passes, by its number: no other number has a place that passes
+keep-number : (test : ℕ → Bool) (l : List ℕ) (i p : ℕ) → nth l i ≡ At p → test p ≡ true
+    → ((j q : ℕ) → nth l j ≡ At q → test q ≡ true → j ≡ i) → keep test l ≡ p ∷ []
+unfolding keep nth
+keep-number test [] i p at on alone = absurd (at-nothing (sym at))
+keep-number test (x ∷ xs) zero p at on alone =
+    let d : x ≡ p = cc in
+    ap (λ (b : Bool). cond b (x ∷ keep test xs) (keep test xs)) (ap test d ∙ on)
+    ∙ ap₂ (λ (y : ℕ) (ys : List ℕ). y ∷ ys) d (keep-none test xs (all-of-nth (λ q. test q ≡ false) xs (λ j q e. other j q e (test q) refl)))
+  where
+    other : (j q : ℕ) → nth xs j ≡ At q → (b : Bool) → test q ≡ b → b ≡ false
+    other j q e true t = absurd (omega (arith, alone (suc j) q e t))
+    other j q e false t = refl
+keep-number test (x ∷ xs) (suc i) p at on alone =
+    go (test x) refl (keep-number test xs i p at on (λ j q e t. omega (arith, alone (suc j) q e t)))
+  where
+    go : (b : Bool) → test x ≡ b → keep test xs ≡ p ∷ [] → cond b (x ∷ keep test xs) (keep test xs) ≡ p ∷ []
+    go true t more = absurd (omega (arith, alone zero x refl t))
+    go false t more = more
+
+pub only-number : (test : ℕ → Bool) (l : List ℕ) (i p : ℕ) → nth l i ≡ At p → test p ≡ true
+    → ((j q : ℕ) → nth l j ≡ At q → test q ≡ true → j ≡ i) → only (keep test l) ≡ At p
+unfolding only
+only-number test l i p at on alone = ap only (keep-number test l i p at on alone)
 
 -- ---- the only place that passes, by searches
 module _ (test : ℕ → Bool) where
