@@ -7,6 +7,7 @@ pub mod Order
 pub mod Image
 pub mod Written
 pub mod Last
+pub mod Shown
 pub mod Reader
 pub mod Rebuilt
 pub mod Case4
