@@ -14,6 +14,7 @@ use Rattle.kinds.specs.Kinds.{full}
 use Rattle.kinds.specs.declared.Kinds.{Kinds}
 use Rattle.promises.proofs.Exactly.{texts-shown}
 use Rattle.promises.proofs.Fields.{fields-shown, pool-count, strings-shown, no-name, records-shown}
+use Rattle.promises.proofs.ReadBack.{written-tiny, written-board}
 use Rattle.promises.proofs.Verdicts.{accepted-by, says-count}
 use Rattle.promises.specs.Answers.{answers}
 use Rattle.promises.specs.Demand1.{table}
@@ -62,5 +63,7 @@ demand2 =
       tinyReadsBack = tiny-written.written-reads-back;
       boardReadsBack = λ x fits b n e. board-written.written-reads-back x b n e fits;
       tinyRebuilt = λ s n e octets b. tiny-rebuilt.rebuilt s n (accepted-by Tiny full s n e) b (octets 2);
+      tinyShows = written-tiny;
+      boardShows = written-board;
       boardRebuilt = λ s n e r octets. board-rebuilt.rebuilt s n (accepted-by Board full s n e) r octets;
     }

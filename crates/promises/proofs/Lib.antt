@@ -10,6 +10,7 @@ pub mod BoardReaders
 pub mod Images
 pub mod Exactly
 pub mod Demand3
+pub mod ReadBack
 pub mod Stand
 pub mod CompleteTiny
 pub mod CompleteBoard
@@ -18,3 +19,4 @@ pub mod Differ
 pub mod TinyExamples
 pub mod BoardExamples
 pub mod CompleteExamples
+pub mod ReadBackExamples

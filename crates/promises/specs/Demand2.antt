@@ -27,6 +27,7 @@ use Rattle.promises.specs.Answers.{TinyAnswers, BoardAnswers, answers, E
 use Rattle.promises.specs.Demand1.{table}
 use Rattle.promises.specs.Hidden.{hasPool}
 use Rattle.promises.specs.Rows.{labelled, knownRows}
+use Rattle.promises.specs.ReadBack.{TinyShows, BoardShows}
 use Rattle.reader.specs.Formats.{places}
 use Rattle.reader.specs.Items.{poolOf, itemAt}
 use Rattle.reader.specs.Values.{tiny-fields, ItemValues, itemValues}
@@ -103,6 +104,11 @@ pub record Demand2 : Type 0 where
   pub tinyReadsBack : (x : tiny-parts.Parts) (b : List ℕ) (n : ℕ) → writeSaid (tiny-writer.written x b .0) ≡ says n → tiny-back.ReadsBack x (tiny-writer.written x b .1)
   pub boardReadsBack : (x : board-parts.Parts) → board-parts.Fits x → (b : List ℕ) (n : ℕ) → writeSaid (board-writer.written x b .0) ≡ says n
       → (m : ℕ) → n ≤ m → m ≤ 65536 → board-back.ReadsBack x (take m (board-writer.written x b .1))
+  -- "reads back as given", by the reader's own calls: items, strings, name and records asked by number show what was given, whatever the list
+  pub tinyShows : (x : tiny-parts.Parts) (b : List ℕ) (n : ℕ) → writeSaid (tiny-writer.written x b .0) ≡ says n
+      → (k : Kinds) → TinyShows x k (answers Tiny k (tiny-writer.written x b .1))
+  pub boardShows : (x : board-parts.Parts) → board-parts.Fits x → (b : List ℕ) (n : ℕ) → writeSaid (board-writer.written x b .0) ≡ says n
+      → (m : ℕ) → n ≤ m → m ≤ 65536 → (k : Kinds) → BoardShows x (answers Board k (take m (board-writer.written x b .1)))
   -- "an accepted image that a writer can make is rebuilt to the last byte": "if it is tiny, or a board without `$PromSig` and with minor 0 in its first three
   -- structures".
   pub tinyRebuilt : (s : List ℕ) (n : ℕ) → answers Tiny full s .judge ≡ says n → Octets s → (b : List ℕ) → total s ≤ length b
