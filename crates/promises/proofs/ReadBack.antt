@@ -83,10 +83,11 @@ labels (tiny.batched x b) = refl
 labels tiny.notKnown = refl
 
 module _ (x : tiny-parts.Parts) (rest : List ℕ) (good : rule46 (x .run) ≡ Nothing) (k : Kinds) (c : ℕ) (e : judged k (image x ++ rest) ≡ Accepted c) where
+  -- what the reader is lent
   abbrev s : List ℕ
   s = image x ++ rest
 
-  -- item i stands here
+  -- where item i stands
   abbrev place : ℕ → ℕ
   place i = placeAt x rest good i
 
@@ -118,7 +119,7 @@ module _ (x : tiny-parts.Parts) (rest : List ℕ) (good : rule46 (x .run) ≡ No
       go false = refl
 
   -- ---- items
-  -- the rows at a place, where the tag there is on the list
+  -- what is shown at a place is the rows of its tag, where that is on the list
   place-rows : (p : ℕ) → labelled (fieldValues s (itemAt k s (pool k s) p .item)) ≡ cond (isKnown k s p) (itemShown k s p) []
   unfolding itemAt
   place-rows p = go (isKnown k s p) refl
@@ -129,7 +130,7 @@ module _ (x : tiny-parts.Parts) (rest : List ℕ) (good : rule46 (x .run) ≡ No
           sym (ap (λ (b : Bool). labelled (fieldValues s (cond b (fieldsAt s (pool k s) (shapeOf (byte s p)) p) Item.NotKnown))) on) ∙ known-rows k s p on
       go false off = refl
 
-  -- are those over the item given
+  -- and at the place of item i of the run these are the rows over the item given
   given-rows : (i : ℕ) → i < givenCount x → cond (isKnown k s (place i)) (itemShown k s (place i)) [] ≡ rowsGiven k x (givenItem x i)
   given-rows i h =
       let p : ℕ = place i in
