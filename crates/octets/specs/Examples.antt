@@ -12,7 +12,7 @@ use Rattle.octets.specs.Bytes.{byte, spelled, le16, le32}
 use Rattle.octets.specs.Cut.{cut}
 use Rattle.octets.specs.Label.{isText, isLabelText, textEnd, badLabel}
 use Rattle.octets.specs.Put.{put}
-use Rattle.octets.specs.Runs.{difference, sameRun, nonzero}
+use Rattle.octets.specs.Runs.{sixAt, eightAt, sixteenAt, sixBytes, eightBytes, sixteenBytes, difference, sameRun, nonzero}
 
 -- the first byte is the lowest; past the end a byte reads as 0
 number : le16 (0x00 ∷ 0x34 ∷ 0x12 ∷ []) 1 ≡ 0x1234
@@ -26,6 +26,23 @@ number-past = refl
 number-spelled : spelled 4 0x1234 ≡ 0x34 ∷ 0x12 ∷ 0x00 ∷ 0x00 ∷ []
 unfolding spelled
 number-spelled = refl
+
+-- bytes that differ at every place, and the six, eight and sixteen from place 2 on
+abbrev different : List ℕ
+different = 0xA0 ∷ 0xA1 ∷ 0xA2 ∷ 0xA3 ∷ 0xA4 ∷ 0xA5 ∷ 0xA6 ∷ 0xA7 ∷ 0xA8 ∷ 0xA9 ∷ 0xAA ∷ 0xAB ∷ 0xAC ∷ 0xAD ∷ 0xAE ∷ 0xAF ∷ 0xB0 ∷ 0xB1 ∷ 0xB2 ∷ []
+
+six-bytes : sixBytes (sixAt different 2) ≡ 0xA2 ∷ 0xA3 ∷ 0xA4 ∷ 0xA5 ∷ 0xA6 ∷ 0xA7 ∷ []
+unfolding sixAt tab
+six-bytes = refl
+
+eight-bytes : eightBytes (eightAt different 2) ≡ 0xA2 ∷ 0xA3 ∷ 0xA4 ∷ 0xA5 ∷ 0xA6 ∷ 0xA7 ∷ 0xA8 ∷ 0xA9 ∷ []
+unfolding eightAt tab
+eight-bytes = refl
+
+sixteen-bytes : sixteenBytes (sixteenAt different 2)
+    ≡ 0xA2 ∷ 0xA3 ∷ 0xA4 ∷ 0xA5 ∷ 0xA6 ∷ 0xA7 ∷ 0xA8 ∷ 0xA9 ∷ 0xAA ∷ 0xAB ∷ 0xAC ∷ 0xAD ∷ 0xAE ∷ 0xAF ∷ 0xB0 ∷ 0xB1 ∷ []
+unfolding sixteenAt tab
+sixteen-bytes = refl
 
 differing : difference (1 ∷ 2 ∷ 3 ∷ 4 ∷ []) 0 (0 ∷ 1 ∷ 2 ∷ 9 ∷ []) 1 4 ≡ At 2
 unfolding difference first chain visit
