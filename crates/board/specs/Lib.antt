@@ -7,4 +7,5 @@ pub mod Shown
 pub mod NotShown
 pub mod Silent
 pub mod Examples
+pub mod FieldExamples
 pub mod laws
