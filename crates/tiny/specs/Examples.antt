@@ -1,5 +1,5 @@
--- Answers by computation, as one statement over a table: case 14 of paper 01 (case 4 with 01 off the list), the refusals 42, 43 and 44 and their order,
--- and an identity with batch with all its values. A refused name leaves the lent buffer as it was. Assumes nothing.
+-- Answers by computation, as one statement over a table: case 14 of paper 01 (case 4 with 01 off the list), and the refusals 42, 43 and 44 and their order.
+-- A refused name leaves the lent buffer as it was. Assumes nothing.
 use Prim.Native.Nat.{ℕ}
 use mathlib.Core.Bool.{not}
 use mathlib.Core.List.{List, [], _∷_}
@@ -15,19 +15,17 @@ use Rattle.crc.specs.Crc8.{crc8, reduce, bring, bitsOf, bitsOfAll}
 use Rattle.kinds.specs.Kinds.{listed, picked, all, full, same}
 use Rattle.kinds.specs.declared.Kind.the-variants.{Tag}
 use Rattle.kinds.specs.declared.Kinds.{Kinds}
-use Rattle.octets.specs.Bytes.{le16}
 use Rattle.octets.specs.Label.{isText}
 use Rattle.tiny_layout.specs.Layout.{headSize, dataLength, next}
 use Rattle.tiny_layout.specs.Pool.{pool}
 use Rattle.tiny_layout.specs.Strings.{split, texts, stringEnd, reference}
 use Rattle.tiny_layout.specs.Tags.{shapeOf}
 use Rattle.tiny_rules.specs.Judged.{judged}
-use Rattle.tiny_rules.specs.Rules.{rule1, rule2, rule3, rule4, rule5, rule6, rule7, rule8, rule9, rule10, rule11, badIndex, isMajor, badRevision, badBatch}
+use Rattle.tiny_rules.specs.Rules.{rule1, rule2, rule3, rule4, rule5, rule6, rule7, rule8, rule9, rule10, rule11, badIndex}
 use Rattle.tiny.specs.Answers.{itemNumbered, stringNumbered, nameOf}
 use Rattle.tiny.specs.Cases.{case4, case5}
-use Rattle.tiny.specs.Items.{itemAt, identityAt, batchedAt}
-use Rattle.tiny.specs.Major.{majorText}
-use Rattle.tiny.specs.Values.{ReferenceValue, text, undecodable, serial, batched, ItemValues, itemSaid, stringSaid, nameSaid}
+use Rattle.tiny.specs.Items.{itemAt}
+use Rattle.tiny.specs.Values.{ReferenceValue, text, undecodable, serial, ItemValues, itemSaid, stringSaid, nameSaid}
 use Rattle.verdict.specs.Said.{Said, says, refused}
 
 -- a row of the table: a reader's list, an image, what is asked, and what is said
@@ -53,11 +51,6 @@ top1 = 0x74 ∷ 0x6F ∷ 0x70 ∷ 0x31 ∷ []
 abbrev twoSerials : List ℕ
 twoSerials = 0x56 ∷ 0x02 ∷ 0x0E ∷ 0x10 ∷ 0x00 ∷ 0x10 ∷ 0x00 ∷ 0x01 ∷ 0x04 ∷ 0x74 ∷ 0x6F ∷ 0x70 ∷ 0xB1 ∷ 0xA2 ∷ []
 
--- an identity with batch, and a pool of the strings top1 and P7
-abbrev withBatch : List ℕ
-withBatch =
-    0x56 ∷ 0x02 ∷ 0x15 ∷ 0x81 ∷ 0x00 ∷ 0x01 ∷ 0x99 ∷ 0x05 ∷ 0x41 ∷ 0x42 ∷ 0x0F ∷ 0x27 ∷ 0x01 ∷ 0x06 ∷ 0x74 ∷ 0x6F ∷ 0x70 ∷ 0xB1 ∷ 0x50 ∷ 0xB7 ∷ 0xA8 ∷ []
-
 abbrev examples : List Example
 examples =
     -- case 14: the serial and each string looked up are undecodable, and there is no name
@@ -79,27 +72,9 @@ examples =
     ∷ name full twoSerials (replicate 3 0xAA) (refused 44 0) (replicate 3 0xAA)
     -- the image's own refusal comes before all
     ∷ name full [] [] (refused 1 0) []
-    -- an identity with batch: major 99h, '0Z'; minor 5; 'A' and 'B'; batch 9999
-    ∷ item full withBatch 0
-    (says (record {
-      kind = 0x81;
-      place = 3;
-      length = 8;
-      fields =
-          batched
-          (record {
-            serial = text top1;
-            part = text (0x50 ∷ 0x37 ∷ []);
-            major = 0x99;
-            letters = record { first = 0x30; second = 0x5A };
-            minor = 5;
-            characters = record { first = 0x41; second = 0x42 };
-          })
-          9999;
-    }))
     ∷ []
 
 examples-hold : All Holds examples
-unfolding judged rule1 rule2 rule3 rule4 rule5 rule6 rule7 rule8 rule9 rule10 rule11 badIndex isMajor badRevision badBatch itemNumbered stringNumbered nameOf itemAt identityAt batchedAt majorText first visit chain keep only nth next headSize dataLength pool split texts stringEnd reference shapeOf tab le16 crc8 reduce bring bitsOf bitsOfAll listed picked all same isText
+unfolding judged rule1 rule2 rule3 rule4 rule5 rule6 rule7 rule8 rule9 rule10 rule11 badIndex itemNumbered stringNumbered nameOf itemAt first visit chain keep only nth next headSize dataLength pool split texts stringEnd reference shapeOf tab crc8 reduce bring bitsOf bitsOfAll listed picked all same isText
 examples-hold =
-    (refl, ((refl, refl), (refl, (refl, (refl, (refl, (refl, (refl, (refl, ((refl, refl), ((refl, refl), ((refl, refl), ((refl, refl), (refl, tt))))))))))))))
+    (refl, ((refl, refl), (refl, (refl, (refl, (refl, (refl, (refl, (refl, ((refl, refl), ((refl, refl), ((refl, refl), ((refl, refl), tt)))))))))))))

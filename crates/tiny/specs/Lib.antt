@@ -8,4 +8,5 @@ pub mod Shown
 pub mod NotShown
 pub mod Cases
 pub mod Examples
+pub mod FieldExamples
 pub mod laws
