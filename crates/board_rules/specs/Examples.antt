@@ -44,12 +44,16 @@ abbrev pub header : ℕ → ℕ → ℕ → List ℕ
 header end check covers =
     head (0x24 ∷ 0x45 ∷ 0x65 ∷ 0x70 ∷ 0x72 ∷ 0x6F ∷ 0x6D ∷ 0x24 ∷ []) 0x30 ++ four end ++ four check ++ four covers ++ four 4 ++ zeros 16
 
--- $EeprMap: PartLabel "rig", BlkLength and PartSize 4,096, PageSize 32, Master 1; one record "top1" at address 50h
-abbrev pub eeprMap : ℕ → List ℕ
-eeprMap speed =
+-- $EeprMap: PartLabel "rig", BlkLength and PartSize 4,096, PageSize 32, Master 1; one record with this label, at address 50h
+abbrev pub labelled : List ℕ → ℕ → List ℕ
+labelled label speed =
     head (0x24 ∷ 0x45 ∷ 0x65 ∷ 0x70 ∷ 0x72 ∷ 0x4D ∷ 0x61 ∷ 0x70 ∷ []) 0x50
     ++ (0x72 ∷ 0x69 ∷ 0x67 ∷ 0x24 ∷ zeros 12) ++ four 4096 ++ (32 ∷ 0 ∷ []) ++ four 4096 ++ (0 ∷ 1 ∷ speed ∷ zeros 3)
-    ++ (0x74 ∷ 0x6F ∷ 0x70 ∷ 0x31 ∷ 0x24 ∷ zeros 11) ++ four 0x20 ++ four 0 ++ (0x50 ∷ zeros 7)
+    ++ label ++ four 0x20 ++ four 0 ++ (0x50 ∷ zeros 7)
+
+-- with the label "top1"
+abbrev pub eeprMap : ℕ → List ℕ
+eeprMap speed = labelled (0x74 ∷ 0x6F ∷ 0x70 ∷ 0x31 ∷ 0x24 ∷ zeros 11) speed
 
 -- $BrdInfo: ManuName "Gwejlusa", BrdName "rig", BrdSerial "0001", BoardId 1, FabId 2, EcId 3
 abbrev pub brdInfo : ℕ → ℕ → List ℕ
@@ -118,6 +122,7 @@ early-hold = refl
 -- ---- rules 27 and 29, and acceptance
 abbrev checked : List Row
 checked =
+    -- cases 10 and 13: the label is "top1", '$' and eleven zeros
     row (image 0xE0 0x971449AD 0xE0 []) (Accepted 3)
     -- bytes lent past StructLen
     ∷ row (image 0xE0 0x971449AD 0xE0 (1 ∷ 2 ∷ 3 ∷ [])) (Accepted 3)
@@ -152,6 +157,8 @@ abbrev fields : List Row
 fields =
     -- 30: Speed 4
     row (header 0xE0 0x433A538C 0xE0 ++ eeprMap 4 ++ brdInfo 0x60 0) (refusal 30 0x5C)
+    -- 30, case 10: a label of sixteen zeros
+    ∷ row (header 0xE0 0x8429D5EA 0xE0 ++ labelled (zeros 16) 2 ++ brdInfo 0x60 0) (refusal 30 0x60)
     -- 31: BoardType 2
     ∷ row (header 0xE0 0x5DDA3F21 0xE0 ++ eeprMap 2 ++ brdInfo 0x60 2) (refusal 31 0xCC)
     ∷ []
