@@ -20,7 +20,7 @@ zeros n = replicate n 0
 
 -- the generic head: Signature, VerMajor 1, VerMinor 0, Length
 abbrev pub head : ℕ → ℕ → List ℕ
-head signature length = spelled 8 signature ++ spelled 2 1 ++ spelled 2 0 ++ spelled 4 length
+head signature size = spelled 8 signature ++ spelled 2 1 ++ spelled 2 0 ++ spelled 4 size
 
 -- $Eeprom$: StructLen, Crc32, CrcLength, Version, Reserved
 abbrev pub headerOf : ℕ → ℕ → ℕ → ℕ → List ℕ
@@ -29,8 +29,8 @@ headerOf end check covers version =
 
 -- $EeprMap of a Length, up to its records: PartLabel, BlkLength, PageSize, PartSize, BusNumber, Master, Speed, Reserved
 abbrev pub mapOf : ℕ → MapFields → List ℕ
-mapOf length m =
-    head eeprMap length ++ sixteenBytes (m .partlabel) ++ spelled 4 (m .blklength) ++ spelled 2 (m .pagesize) ++ spelled 4 (m .partsize)
+mapOf size m =
+    head eeprMap size ++ sixteenBytes (m .partlabel) ++ spelled 4 (m .blklength) ++ spelled 2 (m .pagesize) ++ spelled 4 (m .partsize)
     ++ (m .busnumber ∷ m .master ∷ m .speed ∷ zeros 3)
 
 -- a map record: Label, Length (the record's own size, 20h), Offset, Address, Reserved

@@ -83,7 +83,7 @@ module _ (x : Parts) where
   image-accepted k c l n e first second =
       let t : List ℕ = laid x c l in
       let holds = check-holds k t n e in
-      let length : crcLength x ≡ l = covered-laid c l ∙ sym (holds .1) ∙ second in
+      let size : crcLength x ≡ l = covered-laid c l ∙ sym (holds .1) ∙ second in
       ap₂ (laid x)
-      (ap (λ (m : ℕ). checkOver (laid x 0 m) m) length ∙ check-laid c l l ∙ ap (checkOver t) (sym second ∙ holds .1) ∙ sym (holds .0) ∙ first)
-      length
+      (ap (λ (m : ℕ). checkOver (laid x 0 m) m) size ∙ check-laid c l l ∙ ap (checkOver t) (sym second ∙ holds .1) ∙ sym (holds .0) ∙ first)
+      size
