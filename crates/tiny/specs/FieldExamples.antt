@@ -1,4 +1,5 @@
--- What each tag shows, by computation: an accepted image with one item of each, whose values all differ, and each value written out. Assumes nothing.
+-- What each tag shows, by computation: an accepted image with one item of each, whose values all differ, and each value written out; and what an index refers to.
+-- Assumes nothing.
 use Prim.Native.Nat.{ℕ}
 use mathlib.Core.List.{List, [], _∷_, map}
 use mathlib.Core.Path.{_≡_, refl}
@@ -21,8 +22,9 @@ use Rattle.tiny_rules.specs.Rules.{rule1, rule2, rule3, rule4, rule5, rule6, ru
 use Rattle.tiny.specs.Answers.{itemNumbered}
 use Rattle.tiny.specs.Items.{itemAt, identityAt, batchedAt, poolShown}
 use Rattle.tiny.specs.Major.{majorText}
+use Rattle.tiny.specs.Texts.{referred}
 use Rattle.tiny.specs.Values as values
-use Rattle.tiny.specs.Values.{text, serial, flags, address, identity, batched, itemSaid}
+use Rattle.tiny.specs.Values.{text, undecodable, serial, flags, address, identity, batched, itemSaid}
 use Rattle.verdict.specs.Said.{says}
 
 -- the header, one item to a line, and the check; the pool's strings are S1, P2, P3, S4, S5, P6, P7, S8 and top1
@@ -99,3 +101,8 @@ fields-shown : map (λ n. itemSaid image (itemNumbered full image n)) (0 ∷ 1 �
     ∷ []
 unfolding judged rule1 rule2 rule3 rule4 rule5 rule6 rule7 rule8 rule9 rule10 rule11 badIndex isMajor badRevision badBatch itemNumbered itemAt identityAt batchedAt poolShown majorText first visit chain keep nth next headSize dataLength pool split texts stringEnd reference shapeOf tab le16 sixAt crc8 reduce bring bitsOf bitsOfAll listed all isText
 fields-shown = refl
+
+-- what an index refers to: of the nine strings the second and the last, and none past them
+strings-referred : map (referred full image) (1 ∷ 8 ∷ 9 ∷ []) ≡ text (0x50 ∷ 0x32 ∷ []) ∷ text (0x74 ∷ 0x6F ∷ 0x70 ∷ 0x31 ∷ []) ∷ undecodable ∷ []
+unfolding first visit chain keep next headSize dataLength pool split texts stringEnd tab listed all
+strings-referred = refl
