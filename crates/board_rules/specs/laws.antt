@@ -16,7 +16,6 @@ pub mod Records
 pub mod Structure
 pub mod Fields
 pub mod Smallest
-pub mod Bounds
 pub mod BrokenPlaces
 pub mod BrokenTests
 pub mod Clauses
@@ -31,3 +30,4 @@ pub mod BrokenInside
 pub mod BrokenKnown
 pub mod BrokenFields
 pub mod Table
+pub mod Bounds

@@ -14,7 +14,6 @@ pub mod Keep
 pub mod Number
 pub mod Ranges
 pub mod Smallest
-pub mod Most
 pub mod Rising
 pub mod Apart
 pub mod Steps

@@ -55,7 +55,7 @@ reserved s p = when (eqb (byte s p) 0x00) p
 unfoldable pub rule7 : List ℕ → Found
 rule7 s = first (reserved s) (items s)
 
--- 8: listed pool is not the last item. (Rule 6 comes first, so an item that ends before the check byte has another behind it.)
+-- 8: listed pool is not the last item. (An item that ends before the check byte has another behind it.)
 abbrev pub early : Kinds → List ℕ → ℕ → Found
 early k s p = when (isOf k s 0x01 p && ltb (next s p) (checkPlace s)) p
 

@@ -5,7 +5,6 @@ pub mod Shorter
 pub mod Range
 pub mod Same
 pub mod Front
-pub mod Smallest
 pub mod BrokenHead
 pub mod BrokenItems
 pub mod BrokenData
