@@ -11,11 +11,7 @@ pub mod Shorter
 pub mod Tables
 pub mod Rows
 pub mod Same
-pub mod Labelled
-pub mod Records
-pub mod Structure
 pub mod Fields
-pub mod Smallest
 pub mod BrokenPlaces
 pub mod BrokenTests
 pub mod Clauses

@@ -13,8 +13,6 @@ pub mod Nth
 pub mod Keep
 pub mod Number
 pub mod Ranges
-pub mod Smallest
-pub mod Rising
 pub mod Apart
 pub mod Steps
 pub mod Fill

@@ -1,7 +1,7 @@
 -- What acceptance gives: no rule of the table is broken, and what the rules say in numbers of what is lent, the header, the structures, the map with its
--- records, the board and the check. And an image that breaks no rule is accepted. Assumes nothing.
+-- records, the board and the check. Assumes nothing.
 use Prim.Native.Nat.{ℕ, suc, _+_, _*_, _%_, _≤_, _<_}
-use mathlib.Core.Bool.{Bool, not}
+use mathlib.Core.Bool.{not}
 use mathlib.Core.List.{List, [], _∷_}
 use mathlib.Core.Path.{_≡_, sym, ap, _∙_}
 use native.Mathlib.Omega.{arith}
@@ -15,7 +15,6 @@ use Rattle.board_rules.specs.Rules.{headerLength, rule20, rule21, rule22
 use Rattle.chain.specs.laws.Checks.{checks-none, kept-equal, kept-under}
 use Rattle.board_rules.specs.laws.Heads as heads
 use Rattle.board_rules.specs.laws.Order as order
-use Rattle.chain.specs.laws.Rising.{found-none, tested}
 use Rattle.board_rules.specs.laws.Walk as walk
 use Rattle.board_rules.specs.laws.Walk.{Fits}
 use Rattle.chain.specs.All.{All}
@@ -29,17 +28,7 @@ use Rattle.kinds.specs.declared.Kinds.{Kinds}
 use Rattle.octets.specs.Bytes.{le32}
 use Rattle.verdict.specs.declared.Judged.{Judged}
 use Rattle.verdict.specs.declared.Judged.the-variants.{Accepted}
-use Rattle.verdict.specs.laws.Accepted.{Clear, clear, after, passed}
-
--- the tests of rule 27, with their places
-abbrev pub checkTests : List ℕ → List (ℕ × Bool)
-checkTests s =
-    (Crc32, not (eqb (le32 s Crc32) (checkOver s (covered s)))) ∷ (CrcLength, not (eqb (le32 s CrcLength) (covered s))) ∷ []
-
--- an image that breaks no rule is accepted, with the count of its structures
-pub clear-accepted : (k : Kinds) (s : List ℕ) → Clear (rules k s) → judged k s ≡ Accepted (length (structures s))
-unfolding judged
-clear-accepted k s c = passed (rules k s) (Accepted (length (structures s))) c
+use Rattle.verdict.specs.laws.Accepted.{Clear, clear, after}
 
 module _ (k : Kinds) (s : List ℕ) (n : ℕ) (e : judged k s ≡ Accepted n) where
   -- no rule is broken
@@ -183,5 +172,6 @@ module _ (k : Kinds) (s : List ℕ) (n : ℕ) (e : judged k s ≡ Accepted n) wh
   pub check-holds : (le32 s Crc32 ≡ checkOver s (covered s)) × (le32 s CrcLength ≡ covered s)
   unfolding rule27
   check-holds =
-      let t = found-none (tested (checkTests s)) (accepted-clear .1 .1 .1 .1 .1 .1 .1 .0) in
+      let t = checks-none (when (not (eqb (le32 s Crc32) (checkOver s (covered s)))) Crc32 ∷ when (not (eqb (le32 s CrcLength) (covered s))) CrcLength ∷ [])
+      (accepted-clear .1 .1 .1 .1 .1 .1 .1 .0) in
       (kept-equal (le32 s Crc32) (checkOver s (covered s)) Crc32 (t .0), kept-equal (le32 s CrcLength) (covered s) CrcLength (t .1 .0))

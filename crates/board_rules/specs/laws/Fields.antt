@@ -1,11 +1,11 @@
 -- What acceptance gives of fields, rules 29 to 33: the hash fits, the map's fields and records and BoardType are good, and in no known structure a reserved
 -- byte or a field is bad. Assumes nothing.
 use Prim.Native.Nat.{ℕ, _+_, _*_, _≤_, _<_}
-use mathlib.Core.Bool.{true}
-use mathlib.Core.List.{List}
+use mathlib.Core.Bool.{true, not}
+use mathlib.Core.List.{List, [], _∷_}
 use mathlib.Core.Path.{_≡_, sym, ap, _∙_}
 use native.Mathlib.Omega.{arith}
-use lib.Dec.{eqb}
+use lib.Dec.{eqb, ltb}
 use borrow.Author.Tests.{eqb-false}
 use Rattle.board_fields.specs.Hash.{badHash}
 use Rattle.board_fields.specs.Inside.{badInside}
@@ -20,13 +20,9 @@ use Rattle.board_records.specs.Records.{mapNumber, badMapRecord}
 use Rattle.board_rules.specs.Judged.{judged}
 use Rattle.board_rules.specs.Rules.{promSigAt, onFound, rule29, rule30, rule31, onKnown, rule32, rule33}
 use Rattle.board_rules.specs.laws.Accepted.{accepted-clear, record-place}
-use Rattle.chain.specs.laws.Checks.{kept-equal, kept-under, under-mark}
-use Rattle.board_rules.specs.laws.Records.{mapRecordTests}
-use Rattle.board_rules.specs.laws.Labelled.{labelled}
-use Rattle.chain.specs.laws.Rising.{found-none}
-use Rattle.board_rules.specs.laws.Structure.{mapFieldChecks}
+use Rattle.chain.specs.laws.Checks.{checks-none, kept-equal, kept-under, under-mark}
 use Rattle.chain.specs.All.{All}
-use Rattle.chain.specs.First.{first}
+use Rattle.chain.specs.First.{first, when}
 use Rattle.chain.specs.declared.Found.{Found}
 use Rattle.chain.specs.declared.Found.the-variants.{At, Nothing}
 use Rattle.chain.specs.laws.All.{all-map}
@@ -55,7 +51,13 @@ pub record GoodMapRecord (s : List ℕ) (m r : ℕ) : Type 0 where
 good-record : (s : List ℕ) (m r : ℕ) → badMapRecord s m r ≡ Nothing → GoodMapRecord s m r
 unfolding badMapRecord
 good-record s m r e =
-    let t = found-none (labelled s (r + MapLabel) (mapRecordTests s m r)) e in
+    let t = checks-none
+    (badLabel s (r + MapLabel)
+    ∷ when (not (eqb (le32 s (r + MapLength)) mapRecordSize)) (r + MapLength)
+    ∷ when (not (eqb (le32 s (r + MapOffset)) (mapNumber m r * le32 s (m + BlkLength)))) (r + MapOffset)
+    ∷ when (ltb 0x7F (byte s (r + Address))) (r + Address)
+    ∷ [])
+    e in
     record {
       label = t .0;
       size = kept-equal (le32 s (r + MapLength)) mapRecordSize (r + MapLength) (t .1 .0);
@@ -76,7 +78,15 @@ pub record GoodMapFields (s : List ℕ) (m : ℕ) : Type 0 where
 good-fields : (s : List ℕ) (m : ℕ) → badMapField s m ≡ Nothing → GoodMapFields s m
 unfolding badMapField
 good-fields s m e =
-    let t = found-none (mapFieldChecks s m) e in
+    let t = checks-none
+    (badLabel s (m + PartLabel)
+    ∷ when (eqb (le32 s (m + BlkLength)) 0) (m + BlkLength)
+    ∷ when (not (eqb (le32 s (m + PartSize)) (mapCount s m * le32 s (m + BlkLength)))) (m + PartSize)
+    ∷ when (ltb (le32 s (m + PartSize)) (structLen s)) (m + PartSize)
+    ∷ when (ltb 1 (byte s (m + Master))) (m + Master)
+    ∷ when (ltb 3 (byte s (m + Speed))) (m + Speed)
+    ∷ [])
+    e in
     record {
       label = t .0;
       block = omega (arith, eqb-false (le32 s (m + BlkLength)) 0 (when-nothing (eqb (le32 s (m + BlkLength)) 0) (m + BlkLength) (t .1 .0)));

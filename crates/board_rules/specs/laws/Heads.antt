@@ -14,10 +14,9 @@ use Rattle.board_layout.specs.Places.{StructLen, MapData, mapRecordSize, Eeprom
 use Rattle.board_layout.specs.declared.Records.the-variants.{Map}
 use Rattle.board_layout.specs.laws.Records as layout
 use Rattle.board_layout.specs.laws.Layout.{next-grows, next-round, next-whole, round-same}
-use Rattle.board_rules.specs.Rules.{headerLength, rule21, rule22, rule23, expected, isEarly, outOfOrder, rule25, isPromSig, promSigAt, onFound, rule26, coveredUpTo, covered}
+use Rattle.board_rules.specs.Rules.{headerLength, rule21, rule22, rule23, expected, isEarly, outOfOrder, rule25, promSigAt, onFound, rule26, coveredUpTo, covered}
 use Rattle.chain.specs.laws.Checks.{checks-none, kept-true, kept-equal, kept-under}
 use Rattle.board_rules.specs.laws.Order.{map-second, board-third}
-use Rattle.chain.specs.laws.Rising.{Check, found-none}
 use Rattle.board_rules.specs.laws.Walk.{prom-sig-fits, structures-are}
 use Rattle.chain.specs.All.{All}
 use Rattle.chain.specs.Chain.{chain}
@@ -26,7 +25,7 @@ use Rattle.chain.specs.Nth.{nth}
 use Rattle.chain.specs.declared.Found.{Found}
 use Rattle.chain.specs.declared.Found.the-variants.{At, Nothing}
 use Rattle.chain.specs.laws.All.{all-both}
-use Rattle.chain.specs.laws.First.{Hit, first-all, first-hit, hit-holds, when-test, when-place, when-nothing}
+use Rattle.chain.specs.laws.First.{first-all, when-nothing}
 use Rattle.chain.specs.laws.Places.{chain-within}
 use Rattle.chain.specs.laws.Steps.{steps-count, steps-nth}
 use Rattle.kinds.specs.Signatures.{eeprom, eeprMap, brdInfo, promSig}
@@ -72,17 +71,12 @@ module _ (s : List ℕ) where
       (kept-under (structLen s) headerLength StructLen (t .0), kept-under (length s) (structLen s) StructLen (t .1 .0))
 
   -- ---- rule 26: the heads of map, board and `$PromSig`
-  -- each with the place from which on it lies
-  abbrev pub headChecks : List Check
-  headChecks =
-      (mapAt s, badMapHead s (mapAt s))
-      ∷ (boardAt s, badBoardHead s (boardAt s))
-      ∷ (laterAt s, onFound (badPromSigHead s) (promSigAt s))
-      ∷ []
+  abbrev headChecks : List Found
+  headChecks = badMapHead s (mapAt s) ∷ badBoardHead s (boardAt s) ∷ onFound (badPromSigHead s) (promSigAt s) ∷ []
 
-  heads : rule26 s ≡ Nothing → All (λ c. c .1 ≡ Nothing) headChecks
+  heads : rule26 s ≡ Nothing → All (λ f. f ≡ Nothing) headChecks
   unfolding rule26
-  heads = found-none headChecks
+  heads = checks-none headChecks
 
   -- the map's Length is 30h + 20h n, n at least 1
   pub map-head : rule26 s ≡ Nothing
@@ -178,13 +172,3 @@ module _ (s : List ℕ) where
         (λ h. absurd (omega (arith, h, header-is head .0))),
         ((λ h. absurd (omega (arith, h, map-second s e .1))), ((λ h. absurd (omega (arith, h, board-third s e .1))), later-last e)),
       )
-
-  -- the one that is found
-  pub prom-sig-later : rule21 s ≡ Nothing → rule25 s ≡ Nothing → (p : ℕ) → promSigAt s ≡ At p → (laterAt s ≤ p) × (endAt s p ≡ structLen s)
-  unfolding promSigAt
-  prom-sig-later head e p d =
-      let h : Hit (isPromSig s) (structures s) p = first-hit (isPromSig s) (structures s) p d in
-      let test : Bool = eqb (signatureAt s (h .item)) promSig in
-      subst (λ (q : ℕ). (laterAt s ≤ q) × (endAt s q ≡ structLen s)) (when-place test (h .item) p (h .breaks))
-      (hit-holds (isPromSig s) Last (structures s) p (prom-sig-last head e) h
-      (eqb-true (signatureAt s (h .item)) promSig (when-test test (h .item) p (h .breaks))))

@@ -12,12 +12,12 @@ use Rattle.board_layout.specs.Layout.{signatureAt, lengthAt, structLen, endAt, 
 use Rattle.board_layout.specs.Places.{headSize}
 use Rattle.board_layout.specs.laws.Layout.{next-grows}
 use Rattle.board_rules.specs.Rules.{overdue, misplaced, rule23, gapUsed, rule24, rule25, isPromSig, promSigAt}
-use Rattle.chain.specs.laws.Checks.{kept-equal, kept-under}
+use Rattle.chain.specs.laws.Checks.{checks-none, none-checks, kept-equal, kept-under}
 use Rattle.board_rules.specs.laws.Order.{map-second, board-third}
-use Rattle.chain.specs.laws.Rising.{found-none, none-found, tested}
 use Rattle.chain.specs.All.{All}
 use Rattle.chain.specs.Chain.{chain}
 use Rattle.chain.specs.First.{when}
+use Rattle.chain.specs.declared.Found.{Found}
 use Rattle.chain.specs.declared.Found.the-variants.{At, Nothing}
 use Rattle.chain.specs.laws.All.{all-map}
 use Rattle.chain.specs.laws.Chain.{chain-more}
@@ -38,14 +38,14 @@ pub record Fits (s : List ℕ) (p : ℕ) : Type 0 where
   pub goes : (endAt s p ≡ structLen s) ⊎ (next s p < structLen s)
 
 module _ (s : List ℕ) where
-  -- ---- rule 23: its tests, with their places
-  abbrev pub walkTests : ℕ → List (ℕ × Bool)
-  walkTests p =
-      (p, ltb (structLen s) (p + headSize))
-      ∷ (p, not (eqb (byte s p) dollar))
-      ∷ (p, ltb (lengthAt s p) headSize)
-      ∷ (p, ltb (structLen s) (endAt s p))
-      ∷ (next s p, not (eqb (endAt s p) (structLen s)) && leb (structLen s) (next s p))
+  -- ---- rule 23: its checks
+  abbrev walkChecks : ℕ → List Found
+  walkChecks p =
+      when (ltb (structLen s) (p + headSize)) p
+      ∷ when (not (eqb (byte s p) dollar)) p
+      ∷ when (ltb (lengthAt s p) headSize) p
+      ∷ when (ltb (structLen s) (endAt s p)) p
+      ∷ overdue s p
       ∷ []
 
   -- no other structure is due that does not start before StructLen
@@ -59,7 +59,7 @@ module _ (s : List ℕ) where
   pub fits : (p : ℕ) → misplaced s p ≡ Nothing → Fits s p
   unfolding misplaced
   fits p e =
-      let t = found-none (tested (walkTests p)) e in
+      let t = checks-none (walkChecks p) e in
       record {
         room = kept-under (structLen s) (p + headSize) p (t .0);
         mark = kept-equal (byte s p) dollar p (t .1 .0);
@@ -83,7 +83,7 @@ module _ (s : List ℕ) where
   pub fits-clear : (p : ℕ) → Fits s p → misplaced s p ≡ Nothing
   unfolding misplaced
   fits-clear p f =
-      none-found (tested (walkTests p)) (
+      none-checks (walkChecks p) (
         ap (λ (b : Bool). when b p) (le-ltb (structLen s) (p + headSize) (f .room)),
         (
           ap (λ (b : Bool). when (not b) p) (eq-eqb (byte s p) dollar (f .mark)),

@@ -20,10 +20,14 @@ neither false b e = (refl, e)
 pub second-fails : (a b : Bool) → a && b ≡ false → a ≡ true → b ≡ false
 second-fails a b e h = subst (λ (t : Bool). t && b ≡ false) h e
 
--- several checks that find nothing: none of them finds anything
+-- several checks find nothing exactly where none of them finds anything
 pub checks-none : (l : List Found) → checks l ≡ Nothing → All (λ f. f ≡ Nothing) l
 checks-none [] e = tt
 checks-none (f ∷ fs) e = (orElse-left f (checks fs) e, checks-none fs (orElse-right f (checks fs) e))
+
+pub none-checks : (l : List Found) → All (λ f. f ≡ Nothing) l → checks l ≡ Nothing
+none-checks [] a = refl
+none-checks (f ∷ fs) a = rw (a .0) (none-checks fs (a .1))
 
 -- a check that a test holds
 pub kept-true : (b : Bool) (p : ℕ) → when (not b) p ≡ Nothing → b ≡ true

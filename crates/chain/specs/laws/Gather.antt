@@ -4,9 +4,9 @@ use Prim.Native.Nat.{ℕ, _≤_, _<_}
 use mathlib.Core.Logic.{inl, inr}
 use mathlib.Core.Path.{_≡_, sym, ap, _∙_}
 use native.Mathlib.Omega.{arith}
-use Rattle.chain.specs.First.{orElse, first, search}
+use Rattle.chain.specs.First.{orElse, search}
 use Rattle.chain.specs.declared.Found.{Found}
-use Rattle.chain.specs.declared.Found.the-variants.{At, Nothing}
+use Rattle.chain.specs.declared.Found.the-variants.{Nothing}
 use Rattle.chain.specs.laws.Below.{below}
 use Rattle.chain.specs.laws.Chain.{chain-ind}
 use Rattle.chain.specs.laws.First.{orElse-assoc, orElse-nothing}
