@@ -13,8 +13,6 @@ pub mod Rows
 pub mod Same
 pub mod Fields
 pub mod BrokenPlaces
-pub mod BrokenTests
-pub mod Clauses
 pub mod BrokenHeader
 pub mod BrokenWalk
 pub mod BrokenOrder

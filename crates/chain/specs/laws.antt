@@ -13,9 +13,12 @@ pub mod Nth
 pub mod Keep
 pub mod Number
 pub mod Ranges
+pub mod Among
 pub mod Apart
 pub mod Steps
 pub mod Fill
 pub mod Onward
 pub mod Inside
 pub mod Finds
+pub mod Means
+pub mod Clauses

@@ -18,18 +18,19 @@ use Rattle.board_rules.specs.Broken.{Second, Third, PromSigAt, Broken29,
 use Rattle.board_rules.specs.Rules.{rule21, rule25, rule29, rule30, rule31}
 use Rattle.board_rules.specs.laws.BrokenPlaces.{second-is, third-is, finds-on-prom-sig}
 use Rattle.board_rules.specs.laws.BrokenRecords.{record-after, InRecord, finds-records}
-use Rattle.board_rules.specs.laws.BrokenTests.{Means, means-equal, means-under, means-other, means-both}
-use Rattle.board_rules.specs.laws.Clauses.{Clause, test, over, under, other, ofLabel, several}
 use Rattle.chain.specs.Finds.{Finds}
 use Rattle.chain.specs.First.{first}
 use Rattle.chain.specs.Nth.{nth}
 use Rattle.chain.specs.declared.Found.{Found}
 use Rattle.chain.specs.declared.Found.the-variants.{At, Nothing}
+use Rattle.chain.specs.laws.Clauses.{Clause, test, over, under, other, several}
 use Rattle.chain.specs.laws.Finds.{finds-as, finds-both}
 use Rattle.chain.specs.laws.First.{when-place}
+use Rattle.chain.specs.laws.Means.{Means, means-equal, means-under, means-other, means-both}
 use Rattle.chain.specs.laws.Steps.{steps-place}
 use Rattle.kinds.specs.declared.Kinds.{Kinds}
 use Rattle.octets.specs.Bytes.{byte, le16, le32}
+use Rattle.octets.specs.laws.LabelBad.{ofLabel}
 
 -- a rule on the one place with a property
 finds-at : (P : ℕ → Type 0) (p : ℕ) → ((q : ℕ) → P q ↔ (q ≡ p)) → (B : ℕ → ℕ → Type 0) (f : Found) → Finds (B p) f → Finds (λ z. (q : ℕ) × (P q × B q z)) f

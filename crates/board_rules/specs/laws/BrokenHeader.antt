@@ -8,8 +8,8 @@ use Rattle.board_layout.specs.Layout.{signatureAt, majorAt, lengthAt, structLen
 use Rattle.board_layout.specs.Places.{StructLen, Crc32, CrcLength}
 use Rattle.board_rules.specs.Broken.{Broken20, Broken21, Broken22, Broken27}
 use Rattle.board_rules.specs.Rules.{headerLength, rule20, rule21, rule22, covered, checkOver, rule27}
-use Rattle.board_rules.specs.laws.Clauses.{Clause, over, under, other, foundIn, AnyOf, finds-any}
 use Rattle.chain.specs.Finds.{Finds}
+use Rattle.chain.specs.laws.Clauses.{Clause, over, under, other, foundIn, AnyOf, finds-any}
 use Rattle.chain.specs.laws.Finds.{finds-as}
 use Rattle.kinds.specs.Signatures.{eeprom}
 use Rattle.kinds.specs.declared.Kinds.{Kinds}

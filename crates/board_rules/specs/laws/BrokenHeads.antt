@@ -14,15 +14,15 @@ use Rattle.board_layout.specs.laws.Layout.{next-grows}
 use Rattle.board_rules.specs.Broken.{PromSigAt, Broken26, Broken28}
 use Rattle.board_rules.specs.Rules.{rule21, rule25, promSigAt, onFound, rule26, rule28}
 use Rattle.board_rules.specs.laws.BrokenPlaces.{second-is, third-is, finds-on-prom-sig}
-use Rattle.board_rules.specs.laws.BrokenTests.{Means, means-under, means-equal, means-most, means-not, means-both}
-use Rattle.board_rules.specs.laws.Clauses.{Clause, test, under, other, several}
 use Rattle.board_rules.specs.laws.Heads.{Last, prom-sig-last}
 use Rattle.chain.specs.Finds.{Finds}
 use Rattle.chain.specs.First.{orElse}
 use Rattle.chain.specs.declared.Found.{Found}
 use Rattle.chain.specs.declared.Found.the-variants.{Nothing}
+use Rattle.chain.specs.laws.Clauses.{Clause, test, under, other, several}
 use Rattle.chain.specs.laws.Finds.{finds-as, finds-when, finds-both}
 use Rattle.chain.specs.laws.First.{orElse-nothing}
+use Rattle.chain.specs.laws.Means.{Means, means-under, means-equal, means-most, means-not, means-both}
 use Rattle.chain.specs.laws.Nth.{nth-all}
 use Rattle.kinds.specs.declared.Kinds.{Kinds}
 

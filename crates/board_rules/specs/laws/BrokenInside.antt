@@ -19,14 +19,15 @@ use Rattle.board_layout.specs.laws.Records.{records-fit}
 use Rattle.board_records.specs.Records.{dataSizeFits, badGpioRecord}
 use Rattle.board_rules.specs.laws.BrokenRecords.{record-after, InRecord, finds-records}
 use Rattle.board_rules.specs.laws.BrokenTables.{TableOf, no, table-of, map, fpga, gpio, others}
-use Rattle.board_rules.specs.laws.BrokenTests.{Means, means-equal, means-not, means-either}
-use Rattle.board_rules.specs.laws.Clauses.{Clause, test, over, other, ofLabel, several}
 use Rattle.chain.specs.Finds.{Among, Finds, Nowhere}
 use Rattle.chain.specs.First.{first, orElse, when}
 use Rattle.chain.specs.declared.Found.the-variants.{At}
+use Rattle.chain.specs.laws.Clauses.{Clause, test, over, other, several}
 use Rattle.chain.specs.laws.Finds.{finds-as}
+use Rattle.chain.specs.laws.Means.{Means, means-equal, means-not, means-either}
 use Rattle.chain.specs.laws.Nth.{nth-all}
 use Rattle.octets.specs.Bytes.{byte, le32}
+use Rattle.octets.specs.laws.LabelBad.{ofLabel}
 
 -- a DataSize that is not 1, 2 or 4
 abbrev pub OtherSize : ℕ → Type 0

@@ -13,9 +13,7 @@ use Rattle.board_layout.specs.Layout.{signatureAt, structLen, endAt, next, stru
 use Rattle.board_layout.specs.laws.Layout.{next-grows, end-next, structure-below}
 use Rattle.board_rules.specs.Broken.{StructureAt, Broken25}
 use Rattle.board_rules.specs.Rules.{rule21, rule23, expected, isEarly, outOfOrder, rule25}
-use Rattle.board_rules.specs.laws.BrokenPlaces.{onwards, nth-second, nth-third, nth-later, nth-starts, among-next, among-goes, second-place, third-place, second-there, third-there}
-use Rattle.board_rules.specs.laws.BrokenTests.{Means, means-equal, means-other, means-both, means-either}
-use Rattle.board_rules.specs.laws.Clauses.{Clause, test, several}
+use Rattle.board_rules.specs.laws.BrokenPlaces.{onwards, nth-second, nth-third, nth-later, second-place, third-place, second-there, third-there}
 use Rattle.board_rules.specs.laws.Heads.{header-is}
 use Rattle.board_rules.specs.laws.Walk.{Fits, walk-fits}
 use Rattle.chain.specs.Finds.{Among, Finds}
@@ -23,8 +21,12 @@ use Rattle.chain.specs.First.{orElse, when, first}
 use Rattle.chain.specs.Nth.{nth}
 use Rattle.chain.specs.declared.Found.{Found}
 use Rattle.chain.specs.declared.Found.the-variants.{At, Nothing}
+use Rattle.chain.specs.laws.Among.{nth-starts, among-goes}
+use Rattle.chain.specs.laws.Apart.{among-behind}
+use Rattle.chain.specs.laws.Clauses.{Clause, test, several}
 use Rattle.chain.specs.laws.Finds.{finds-as, finds-both, finds-when, finds-along}
 use Rattle.chain.specs.laws.First.{orElse-nothing, when-nothing}
+use Rattle.chain.specs.laws.Means.{Means, means-equal, means-other, means-both, means-either}
 use Rattle.chain.specs.laws.Nth.{nth-all}
 use Rattle.chain.specs.laws.Places.{chain-within}
 use Rattle.kinds.specs.Signatures.{eeprom, eeprMap, brdInfo, promSig}
@@ -143,13 +145,13 @@ module _ (k : Kinds) (s : List ℕ) where
       Broken25.laterAgain (3 + a .0) (omega arith) (nth-later s (a .0) ∙ a .1 ∙ ap At (sym i)) early
   order-broken walk z (inr (inr (p, (a, inr (inl (i, (g, more))))))) =
       let b : StructureAt k s z = subst (StructureAt k s) (sym i) (later-structure p a) in
-      Broken25.promSigNotLast (b, g) (next s z) (among-goes s z b (goes-on walk z b more)) (next-grows s z)
+      Broken25.promSigNotLast (b, g) (next s z) (among-goes (next s) (structLen s) (next-grows s) 0 z b (goes-on walk z b more)) (next-grows s z)
   order-broken walk z (inr (inr (p, (a, inr (inr h))))) = absurd h
 
   -- a `$PromSig` that is not last is out of order
   prom-sig-early : rule21 s ≡ Nothing → (i q p : ℕ) → nth (structures s) i ≡ At q → signatureAt s q ≡ promSig → StructureAt k s p → q < p → OutOfOrder s q
   prom-sig-early head zero q p e g b l =
-      absurd (omega (arith, g, header-is s head .0, ap (signatureAt s) (nth-starts s 0 q e)))
+      absurd (omega (arith, g, header-is s head .0, ap (signatureAt s) (nth-starts (next s) (structLen s) (next-grows s) 0 q e)))
   prom-sig-early head (suc zero) q p e g b l =
       let w = second-place k s q e in inl (inl (w .0, w .1, λ d. omega (arith, g, d)))
   prom-sig-early head (suc (suc zero)) q p e g b l =
@@ -159,7 +161,7 @@ module _ (k : Kinds) (s : List ℕ) where
     where
       not-last : endAt s q ≡ structLen s → ⊥
       not-last d =
-          omega (arith, d, end-next s q, among-next s q p (suc (suc (suc i)), e) b l, structure-below s (b .0) p (b .1))
+          omega (arith, d, end-next s q, among-behind (next s) (structLen s) (next-grows s) 0 q p (suc (suc (suc i)), e) b l, structure-below s (b .0) p (b .1))
 
   -- and what breaks the rule is out of order
   broken-order : rule21 s ≡ Nothing → (z : ℕ) → Broken25 k s z → OutOfOrder s z

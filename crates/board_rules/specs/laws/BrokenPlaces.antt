@@ -1,13 +1,13 @@
 -- The structures that the paper's rows speak of: the second is due at mapAt and the third at boardAt, those after it from laterAt on; where rules 21 and 25 find
 -- nothing the second and the third are there, and a `$PromSig` is the one that promSigAt finds. Assumes nothing.
-use Prim.Native.Nat.{ℕ, zero, suc, _+_, _≤_, _<_}
+use Prim.Native.Nat.{ℕ, suc, _+_, _≤_, _<_}
 use mathlib.Core.Bool.{Bool}
 use mathlib.Core.List.{List}
 use mathlib.Core.Logic.{inl, inr, _↔_}
 use mathlib.Core.Path.{_≡_, refl, sym, ap, subst, _∙_}
 use native.Mathlib.Omega.{arith}
 use lib.Dec.{eqb, ltb}
-use borrow.Author.Tests.{ltb-true, lt-ltb, le-ltb, eqb-true, eq-eqb}
+use borrow.Author.Tests.{ltb-true, lt-ltb, eqb-true, eq-eqb}
 use Rattle.board_layout.specs.Layout.{signatureAt, structLen, next, structures, mapAt, boardAt, laterAt}
 use Rattle.board_layout.specs.laws.Layout.{next-grows, end-next, structure-below}
 use Rattle.board_rules.specs.Broken.{StructureAt, Second, Third, PromSigAt}
@@ -15,17 +15,17 @@ use Rattle.board_rules.specs.Rules.{rule21, rule25, isPromSig, promSigAt
 use Rattle.board_rules.specs.laws.Heads.{Last, prom-sig-last}
 use Rattle.board_rules.specs.laws.Order.{map-second, board-third}
 use Rattle.chain.specs.Chain.{chain}
-use Rattle.chain.specs.Finds.{Among, Finds}
+use Rattle.chain.specs.Finds.{Finds}
 use Rattle.chain.specs.First.{when}
 use Rattle.chain.specs.Nth.{nth}
 use Rattle.chain.specs.declared.Found.{Found}
 use Rattle.chain.specs.declared.Found.the-variants.{At, Nothing}
+use Rattle.chain.specs.laws.Among.{nth-start, nth-next}
+use Rattle.chain.specs.laws.Apart.{among-behind}
 use Rattle.chain.specs.laws.Below.{below}
-use Rattle.chain.specs.laws.Chain.{chain-more, chain-end}
 use Rattle.chain.specs.laws.Finds.{finds-as, finds-when, finds-along}
 use Rattle.chain.specs.laws.First.{at-nothing, when-place, when-test}
 use Rattle.chain.specs.laws.Nth.{nth-all}
-use Rattle.chain.specs.laws.Places.{chain-within}
 use Rattle.kinds.specs.Signatures.{promSig}
 use Rattle.kinds.specs.declared.Kinds.{Kinds}
 
@@ -34,67 +34,22 @@ module _ (s : List ℕ) where
   abbrev pub onwards : ℕ → List ℕ
   onwards p = chain (next s) (structLen s) p
 
-  -- ---- by their numbers
   -- number n + 1 from p on is number n from the next one on
-  nth-next : (p n : ℕ) → nth (onwards p) (suc n) ≡ nth (onwards (next s p)) n
-  unfolding nth
-  nth-next p n =
-      elim (below p (structLen s)) [
-        | inl h ↦ rw (chain-more (next s) (structLen s) (next-grows s) p h)
-        | inr h ↦ rw (chain-end (next s) (structLen s) (next-grows s) p h, chain-end (next s) (structLen s) (next-grows s) (next s p) (omega (arith, next-grows s p)))
-      ]
-
-  -- number 0 from p on starts at p, if that is before StructLen
-  nth-start : (p : ℕ) → nth (onwards p) 0 ≡ when (ltb p (structLen s)) p
-  unfolding nth
-  nth-start p =
-      elim (below p (structLen s)) [
-        | inl h ↦ rw (chain-more (next s) (structLen s) (next-grows s) p h, lt-ltb p (structLen s) h)
-        | inr h ↦ rw (chain-end (next s) (structLen s) (next-grows s) p h, le-ltb p (structLen s) h)
-      ]
+  nth-onwards : (p n : ℕ) → nth (onwards p) (suc n) ≡ nth (onwards (next s p)) n
+  nth-onwards = nth-next (next s) (structLen s) (next-grows s)
 
   -- so the second, the third and those after it
   pub nth-second : nth (structures s) 1 ≡ when (ltb (mapAt s) (structLen s)) (mapAt s)
   unfolding mapAt
-  nth-second = nth-next 0 0 ∙ nth-start (mapAt s)
+  nth-second = nth-onwards 0 0 ∙ nth-start (next s) (structLen s) (next-grows s) (mapAt s)
 
   pub nth-third : nth (structures s) 2 ≡ when (ltb (boardAt s) (structLen s)) (boardAt s)
   unfolding boardAt mapAt
-  nth-third = nth-next 0 1 ∙ nth-next (mapAt s) 0 ∙ nth-start (boardAt s)
+  nth-third = nth-onwards 0 1 ∙ nth-onwards (mapAt s) 0 ∙ nth-start (next s) (structLen s) (next-grows s) (boardAt s)
 
   pub nth-later : (i : ℕ) → nth (structures s) (3 + i) ≡ nth (onwards (laterAt s)) i
   unfolding laterAt boardAt mapAt
-  nth-later i = ap (nth (structures s)) (omega arith) ∙ nth-next 0 (suc (suc i)) ∙ nth-next (mapAt s) (suc i) ∙ nth-next (boardAt s) i
-
-  -- ---- one after another
-  -- number 0 is where they start, and the others are not before the next one
-  pub nth-starts : (from p : ℕ) → nth (onwards from) 0 ≡ At p → from ≡ p
-  nth-starts from p e = when-place (ltb from (structLen s)) from p (sym (nth-start from) ∙ e)
-
-  nth-after : (from n p : ℕ) → nth (onwards from) (suc n) ≡ At p → next s from ≤ p
-  nth-after from n p e =
-      nth-all (λ q. (next s from ≤ q) × (q < structLen s)) (onwards (next s from)) n p (chain-within (next s) (structLen s) (next-grows s) (next s from))
-      (sym (nth-next from n) ∙ e) .0
-
-  -- of two structures the further one does not start before the next after the other
-  nth-rises : (i j from p q : ℕ) → nth (onwards from) i ≡ At p → nth (onwards from) j ≡ At q → p < q → next s p ≤ q
-  nth-rises zero zero from p q d e h = absurd (omega (arith, nth-starts from p d, nth-starts from q e))
-  nth-rises zero (suc j) from p q d e h = subst (λ (x : ℕ). next s x ≤ q) (nth-starts from p d) (nth-after from j q e)
-  nth-rises (suc i) zero from p q d e h = absurd (omega (arith, nth-after from i p d, nth-starts from q e, next-grows s from))
-  nth-rises (suc i) (suc j) from p q d e h = nth-rises i j (next s from) p q (sym (nth-next from i) ∙ d) (sym (nth-next from j) ∙ e) h
-
-  pub among-next : (p q : ℕ) → Among (structures s) p → Among (structures s) q → p < q → next s p ≤ q
-  among-next p q a b h = nth-rises (a .0) (b .0) 0 p q (a .1) (b .1) h
-
-  -- the next after a structure is one too, if it starts before StructLen
-  nth-goes : (n from p : ℕ) → nth (onwards from) n ≡ At p → next s p < structLen s → nth (onwards from) (suc n) ≡ At (next s p)
-  nth-goes zero from p e h =
-      nth-next from 0 ∙ ap (λ (q : ℕ). nth (onwards (next s q)) 0) (nth-starts from p e) ∙ nth-start (next s p)
-      ∙ ap (λ (b : Bool). when b (next s p)) (lt-ltb (next s p) (structLen s) h)
-  nth-goes (suc n) from p e h = nth-next from (suc n) ∙ nth-goes n (next s from) p (sym (nth-next from n) ∙ e) h
-
-  pub among-goes : (p : ℕ) → Among (structures s) p → next s p < structLen s → Among (structures s) (next s p)
-  among-goes p a h = (suc (a .0), nth-goes (a .0) 0 p (a .1) h)
+  nth-later i = ap (nth (structures s)) (omega arith) ∙ nth-onwards 0 (suc (suc i)) ∙ nth-onwards (mapAt s) (suc i) ∙ nth-onwards (boardAt s) i
 
 -- ---- the second, the third and `$PromSig`
 module _ (k : Kinds) (s : List ℕ) where
@@ -160,7 +115,7 @@ module _ (k : Kinds) (s : List ℕ) where
       elim (below p q) [
         | inl h ↦
             let l = nth-all (Last s) (structures s) (a .0 .0) p (prom-sig-last s head e) (a .0 .1) (a .1) in
-            absurd (omega (arith, l .1, end-next s p, among-next s p q (a .0) b h, structure-below s (b .0) q (b .1)))
+            absurd (omega (arith, l .1, end-next s p, among-behind (next s) (structLen s) (next-grows s) 0 p q (a .0) b h, structure-below s (b .0) q (b .1)))
         | inr h ↦ h
       ]
 

@@ -16,13 +16,13 @@ use Rattle.board_layout.specs.declared.Shape.the-variants.{EeprMap, FpgaNfo, Gp
 use Rattle.board_records.specs.Records.{fieldUsed, recordFrom, recordTo, recordUsed}
 use Rattle.board_rules.specs.laws.BrokenRecords.{record-after, InRecord, finds-records}
 use Rattle.board_rules.specs.laws.BrokenTables.{TableOf, no, table-of, map, fpga, gpio, others}
-use Rattle.board_rules.specs.laws.BrokenWalk.{finds-nonzero}
 use Rattle.chain.specs.Finds.{Finds, Nowhere}
 use Rattle.chain.specs.First.{first, orElse}
 use Rattle.chain.specs.declared.Found.{Found}
 use Rattle.chain.specs.laws.Finds.{finds-as, finds-under, finds-both}
 use Rattle.octets.specs.Bytes.{byte}
 use Rattle.octets.specs.Runs.{nonzero}
+use Rattle.octets.specs.laws.Runs.{finds-nonzero}
 
 -- a table has records of one kind
 one-kind : (a : Shape) (w v : Records) → HasRecords w a → HasRecords v a → v ≡ w

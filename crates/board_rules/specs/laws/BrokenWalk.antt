@@ -4,7 +4,7 @@ use Prim.Native.Nat.{ℕ, _+_, _-_, _≤_, _<_}
 use mathlib.Core.Bool.{Bool, true, false, cond}
 use mathlib.Core.List.{List, [], _∷_}
 use mathlib.Core.Logic.{inl, inr}
-use mathlib.Core.Path.{_≡_, refl, sym, ap, subst, _∙_}
+use mathlib.Core.Path.{_≡_, refl, sym, subst}
 use native.Mathlib.Omega.{arith}
 use lib.Dec.{eqb}
 use borrow.Author.Tests.{eqb-true, eqb-false}
@@ -13,32 +13,18 @@ use Rattle.board_layout.specs.Places.{headSize}
 use Rattle.board_layout.specs.laws.Layout.{next-grows, end-next}
 use Rattle.board_rules.specs.Broken.{StructureAt, DueAt, Broken23, Broken24}
 use Rattle.board_rules.specs.Rules.{misplaced, rule23, gapUsed, rule24}
-use Rattle.board_rules.specs.laws.BrokenPlaces.{among-goes}
-use Rattle.board_rules.specs.laws.BrokenTests.{means-most, means-other, means-both}
-use Rattle.board_rules.specs.laws.Clauses.{Clause, test, over, under, other, several}
 use Rattle.chain.specs.Finds.{Finds}
 use Rattle.chain.specs.declared.Found.the-variants.{Nothing}
+use Rattle.chain.specs.laws.Among.{among-goes}
 use Rattle.chain.specs.laws.Below.{below}
-use Rattle.chain.specs.laws.Finds.{finds-as, finds-range, finds-along}
+use Rattle.chain.specs.laws.Clauses.{Clause, test, over, under, other, several}
+use Rattle.chain.specs.laws.Finds.{finds-as, finds-along}
+use Rattle.chain.specs.laws.Means.{means-most, means-other, means-both}
 use Rattle.kinds.specs.declared.Kinds.{Kinds}
 use Rattle.octets.specs.Bytes.{byte}
 use Rattle.octets.specs.Label.{dollar}
-use Rattle.octets.specs.Runs.{isSet, nonzero}
-
--- a search for a byte that is not zero
-pub finds-nonzero : (s : List ℕ) (p from end : ℕ) → Finds (λ z. (p + from ≤ z) × (z < p + end) × (byte s z ≡ 0 → ⊥)) (nonzero s p from end)
-unfolding nonzero
-finds-nonzero s p from end =
-    finds-as (λ z. (i : ℕ) × ((from ≤ i) × (i < end) × (z ≡ p + i) × (isSet s p i ≡ true))) (λ z. (p + from ≤ z) × (z < p + end) × (byte s z ≡ 0 → ⊥))
-    (λ z h. (
-      omega (arith, h .1),
-      omega (arith, h .1),
-      λ e. means-other (byte s (p + h .0)) 0 .0 (h .1 .3) (sym (ap (byte s) (h .1 .2)) ∙ e),
-    ))
-    (λ z h.
-    let i : z ≡ p + (z - p) = omega (arith, h .0) in
-    (z - p, (omega (arith, h .0), omega (arith, h .1, h .0), i, means-other (byte s (p + (z - p))) 0 .1 (λ e. h .2 (ap (byte s) i ∙ e)))))
-    (nonzero s p from end) (finds-range (isSet s p) (λ i. p + i) (λ i j h. omega arith) from end)
+use Rattle.octets.specs.Runs.{nonzero}
+use Rattle.octets.specs.laws.Runs.{finds-nonzero}
 
 module _ (k : Kinds) (s : List ℕ) where
   -- ---- rule 23: the clauses of one structure, at its start and at the next one's
@@ -77,7 +63,7 @@ module _ (k : Kinds) (s : List ℕ) where
   due-misplaced q (inl a) h = (q, (a, h))
   due-misplaced q (inr (r, (a, more, i))) h =
       elim (below q (structLen s)) [
-        | inl l ↦ (q, (subst (StructureAt k s) (sym i) (among-goes s r a (omega (arith, i, l))), h))
+        | inl l ↦ (q, (subst (StructureAt k s) (sym i) (among-goes (next s) (structLen s) (next-grows s) 0 r a (omega (arith, i, l))), h))
         | inr l ↦ (r, (a, inr (inr (inr (inr (inl (i, (more, l))))))))
       ]
 

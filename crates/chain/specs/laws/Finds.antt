@@ -7,7 +7,7 @@ use mathlib.Core.Logic.{_⊎_, inl, inr}
 use mathlib.Core.Path.{_≡_, refl, sym, subst, _∙_}
 use native.Mathlib.Omega.{arith}
 use Rattle.chain.specs.Chain.{chain, range}
-use Rattle.chain.specs.Finds.{Among, Smallest, Nowhere, Finds}
+use Rattle.chain.specs.Finds.{Among, Nowhere, Finds}
 use Rattle.chain.specs.First.{orElse, when, first, search}
 use Rattle.chain.specs.Nth.{nth}
 use Rattle.chain.specs.declared.Found.{Found}
@@ -25,10 +25,7 @@ pub finds-as : (B C : ℕ → Type 0) → ((z : ℕ) → B z → C z) → ((z : 
 finds-as B C to back (At p) h = (to p (h .0), λ q c. h .1 q (back q c))
 finds-as B C to back Nothing h = λ q c. h q (back q c)
 
--- what is found has the property, and where it has none nothing is found
-pub found-is : (B : ℕ → Type 0) (f : Found) (p : ℕ) → Finds B f → f ≡ At p → Smallest B p
-found-is B f p h e = subst (Finds B) e h
-
+-- where nothing is found, no place has the property
 pub found-none : (B : ℕ → Type 0) (f : Found) → Finds B f → f ≡ Nothing → Nowhere B
 found-none B f h e = subst (Finds B) e h
 
@@ -36,10 +33,6 @@ found-none B f h e = subst (Finds B) e h
 pub finds-when : (B : ℕ → Type 0) (b : Bool) (q : ℕ) → (b ≡ true → B q) → ((z : ℕ) → B z → (z ≡ q) × (b ≡ true)) → Finds B (when b q)
 finds-when B true q to back = (to refl, λ z h. omega (arith, back z h .0))
 finds-when B false q to back = λ z h. true≢false (sym (back z h .1))
-
--- ---- nothing is looked for, and nothing has the property
-pub finds-nothing : (B : ℕ → Type 0) → ((z : ℕ) → B z → ⊥) → Finds B Nothing
-finds-nothing B none = none
 
 -- ---- a search under a mark
 pub finds-under : (B : ℕ → Type 0) (b : Bool) (f : Found) → (b ≡ true → Finds B f) → ((z : ℕ) → B z → b ≡ true) → Finds B (cond b f Nothing)

@@ -15,6 +15,7 @@ use Rattle.chain.specs.Fill.{tab}
 use Rattle.chain.specs.First.{when}
 use Rattle.chain.specs.Nth.{nth}
 use Rattle.chain.specs.Onward.{onward, along}
+use Rattle.chain.specs.laws.Among.{nth-start, nth-next}
 use Rattle.chain.specs.laws.Below.{below}
 use Rattle.chain.specs.laws.Chain.{chain-end, chain-more}
 use Rattle.chain.specs.laws.Fill.{tab-front, tab-agree}
@@ -59,15 +60,10 @@ module _ (next : ℕ → ℕ) (end : ℕ) (grows : (p : ℕ) → p < next p) whe
   -- item n stands where it is after n items, if that is before the end
   pub nth-along : (n p : ℕ) → nth (chain next end p) n ≡ when (ltb (along next end p n) end) (along next end p n)
   unfolding nth along
-  nth-along zero p =
-      elim (below p end) [
-        | inl h ↦ rw (chain-more next end grows p h, lt-ltb p end h)
-        | inr h ↦ rw (chain-end next end grows p h, le-ltb p end h)
-      ]
+  nth-along zero p = nth-start next end grows p
   nth-along (suc n) p =
       elim (below p end) [
-        | inl h ↦ ap (λ (l : List ℕ). nth l (suc n)) (chain-more next end grows p h)
-            ∙ ap (λ (l : List ℕ). nth l n) (sym (onward-chain p h)) ∙ nth-along n (onward next end p)
+        | inl h ↦ nth-next next end grows p n ∙ ap (λ (l : List ℕ). nth l n) (sym (onward-chain p h)) ∙ nth-along n (onward next end p)
             ∙ ap (λ (q : ℕ). when (ltb q end) q) (sym (along-first next end n p))
         | inr h ↦ ap (λ (l : List ℕ). nth l (suc n)) (chain-end next end grows p h)
             ∙ sym (ap (λ (q : ℕ). when (ltb q end) q) (along-end next end (suc n) p h) ∙ ap (λ (b : Bool). when b p) (le-ltb p end h))

@@ -15,7 +15,7 @@ use Rattle.chain.specs.declared.Found.the-variants.{At, Nothing}
 use Rattle.chain.specs.laws.Below.{below}
 use Rattle.chain.specs.laws.Loops.{one-grows, search-end, search-more}
 use Rattle.chain.specs.laws.Ranges.{Least, range-least, range-none, least-range, none-range}
-use Rattle.octets.specs.Bytes.{byte, run}
+use Rattle.octets.specs.Bytes.{byte}
 use Rattle.octets.specs.Label.{isText, isLabelText, dollar, noText, textEnd, label}
 use Rattle.octets.specs.Runs.{isNothing}
 use Rattle.octets.specs.laws.Bytes.{byte-within, byte-run}

@@ -9,19 +9,20 @@ use native.Mathlib.Omega.{arith}
 use lib.Dec.{T, eqb, ltb}
 use borrow.Author.Tests.{eq-eqb, ne-eqb, eqb-true, eqb-false, not-false, not-true, lt-ltb, le-ltb}
 use Rattle.chain.specs.Fill.{tab}
-use Rattle.chain.specs.First.{orElse, when}
 use Rattle.chain.specs.Finds.{Finds}
+use Rattle.chain.specs.First.{orElse, when}
 use Rattle.chain.specs.declared.Found.{Found}
 use Rattle.chain.specs.declared.Found.the-variants.{At, Nothing}
 use Rattle.chain.specs.laws.Below.{below}
+use Rattle.chain.specs.laws.Clauses.{Clause}
 use Rattle.chain.specs.laws.Fill.{length-tab, getD-tab}
 use Rattle.chain.specs.laws.First.{at-nothing}
 use Rattle.chain.specs.laws.Ranges.{Least}
 use Rattle.octets.specs.Bytes.{byte}
 use Rattle.octets.specs.Label.{isLabelText, dollar, textEnd, afterText, badLabel, Ended, GoodLabel, BadByte, label, BadAt}
 use Rattle.octets.specs.Runs.{isSet, nonzero}
-use Rattle.octets.specs.laws.LabelGood.{good-label}
 use Rattle.octets.specs.laws.Label.{label-byte, dollar-text, text-fits, text-before, text-stops}
+use Rattle.octets.specs.laws.LabelGood.{good-label}
 use Rattle.octets.specs.laws.Runs.{nonzero-least}
 
 -- a byte is not both text and no text
@@ -142,3 +143,16 @@ module _ (s : List ℕ) (p : ℕ) where
           let h : BadAt s p q = bad-byte q e in
           (h, λ z b. omega (arith, one-bad (h .offset) (b .offset) (h .bad) (b .bad), h .stands, b .stands))
       go Nothing e = λ z b. b .bad .none (label s p) (good-label s p e) (λ j h. refl)
+
+-- a label as a clause of a rule
+abbrev pub ofLabel : List ℕ → ℕ → Clause
+ofLabel s q =
+    record {
+      found = badLabel s q;
+      broken = BadAt s q;
+      finds = finds-label s q;
+      from = q;
+      upto = q + 15;
+      rises = omega arith;
+      within = λ z h. (omega (arith, h .stands), omega (arith, h .stands, h .bad .within));
+    }

@@ -6,11 +6,14 @@ use mathlib.Core.Logic.{inl, inr}
 use mathlib.Core.Path.{_≡_, refl, sym, ap, _∙_}
 use native.Mathlib.Omega.{arith}
 use borrow.Author.Tests.{eq-eqb, eqb-true, not-false}
+use Rattle.chain.specs.Fill.{tab}
+use Rattle.chain.specs.Finds.{Finds}
 use Rattle.chain.specs.declared.Found.{Found}
 use Rattle.chain.specs.declared.Found.the-variants.{At, Nothing}
-use Rattle.chain.specs.Fill.{tab}
 use Rattle.chain.specs.laws.Below.{below}
 use Rattle.chain.specs.laws.Fill.{tab-agree}
+use Rattle.chain.specs.laws.Finds.{finds-as, finds-range}
+use Rattle.chain.specs.laws.Means.{means-other}
 use Rattle.chain.specs.laws.Ranges.{Least, range-least, range-none, none-range}
 use Rattle.octets.specs.Bytes.{byte, run, le64}
 use Rattle.octets.specs.Runs.{sixteen, sixteenAt, sixteenBytes, apart, difference, isNothing, sameRun, isSet, nonzero}
@@ -53,6 +56,21 @@ module _ (s : List ℕ) (p from to : ℕ) where
   pub nonzero-least : (q : ℕ) → nonzero s p from to ≡ At q → Least (isSet s p) (λ i. p + i) from to q
   unfolding nonzero
   nonzero-least q e = range-least (isSet s p) (λ i. p + i) to from q e
+
+  -- it is the first from p + from up to p + to
+  pub finds-nonzero : Finds (λ z. (p + from ≤ z) × (z < p + to) × (byte s z ≡ 0 → ⊥)) (nonzero s p from to)
+  unfolding nonzero
+  finds-nonzero =
+      finds-as (λ z. (i : ℕ) × ((from ≤ i) × (i < to) × (z ≡ p + i) × (isSet s p i ≡ true))) (λ z. (p + from ≤ z) × (z < p + to) × (byte s z ≡ 0 → ⊥))
+      (λ z h. (
+        omega (arith, h .1),
+        omega (arith, h .1),
+        λ e. means-other (byte s (p + h .0)) 0 .0 (h .1 .3) (sym (ap (byte s) (h .1 .2)) ∙ e),
+      ))
+      (λ z h.
+      let i : z ≡ p + (z - p) = omega (arith, h .0) in
+      (z - p, (omega (arith, h .0), omega (arith, h .1, h .0), i, means-other (byte s (p + (z - p))) 0 .1 (λ e. h .2 (ap (byte s) i ∙ e)))))
+      (nonzero s p from to) (finds-range (isSet s p) (λ i. p + i) (λ i j h. omega arith) from to)
 
   pub nonzero-none : nonzero s p from to ≡ Nothing → (i : ℕ) → from ≤ i → i < to → byte s (p + i) ≡ 0
   unfolding nonzero

@@ -4,21 +4,19 @@ use Prim.Native.Nat.{ℕ, _+_, _≤_, _<_}
 use mathlib.Core.Bool.{Bool, true, false, not, _&&_, _||_, and-eq-true-iff}
 use mathlib.Core.List.{List}
 use mathlib.Core.Logic.{_⊎_, inl, inr}
-use mathlib.Core.Path.{_≡_, refl, sym, ap, subst, _∙_}
+use mathlib.Core.Path.{_≡_, refl, sym, ap, subst}
 use native.Mathlib.Omega.{arith}
 use lib.Dec.{eqb, ltb}
 use borrow.Author.Tests.{ltb-true, lt-ltb, eqb-true, eq-eqb, lt-leb, leb-false, not-true}
 use Rattle.chain.specs.Chain.{range}
 use Rattle.chain.specs.Finds.{Among, Finds}
 use Rattle.chain.specs.First.{first, when}
-use Rattle.chain.specs.Onward.{onward, along}
 use Rattle.chain.specs.declared.Found.{Found}
 use Rattle.chain.specs.declared.Found.the-variants.{At, Nothing}
-use Rattle.chain.specs.laws.Apart.{Apart, chain-apart}
+use Rattle.chain.specs.laws.Among.{among-goes}
+use Rattle.chain.specs.laws.Apart.{among-behind}
 use Rattle.chain.specs.laws.Below.{below}
 use Rattle.chain.specs.laws.Finds.{finds-as, found-none, finds-when, finds-range, finds-along}
-use Rattle.chain.specs.laws.First.{when-place}
-use Rattle.chain.specs.laws.Onward.{onward-more, along-step, nth-along}
 use Rattle.kinds.specs.Kinds.{listed}
 use Rattle.kinds.specs.declared.Kind.the-variants.{Tag}
 use Rattle.kinds.specs.declared.Kinds.{Kinds}
@@ -59,26 +57,6 @@ finds-bytes B test a b to back =
     (λ z h. subst B (sym (h .1 .2)) (to (h .0) (h .1 .0) (h .1 .1) (h .1 .3)))
     (λ z x. let h = back z x in (z, (h .0, h .1, refl, h .2))) (first (λ q. when (test q) q) (range a b))
     (finds-range test (λ q. q) (λ i j h. h) a b)
-
--- ---- items behind one another
--- where an item ends before the check byte, the next one starts
-item-next : (s : List ℕ) (p : ℕ) → Among (items s) p → next s p < checkPlace s → Among (items s) (next s p)
-item-next s p a h =
-    let end : ℕ = checkPlace s in
-    let at : ℕ = along (next s) end 3 (a .0) in
-    let here : at ≡ p = when-place (ltb at end) at p (sym (nth-along (next s) end (next-grows s) (a .0) 3) ∙ a .1) in
-    let on : along (next s) end 3 (a .0 + 1) ≡ next s p =
-    sym (along-step (next s) end (a .0) 3) ∙ ap (onward (next s) end) here ∙ onward-more (next s) end p (item-within s (a .0) p (a .1) .1) ∙ omega arith in
-    (a .0 + 1, nth-along (next s) end (next-grows s) (a .0 + 1) 3 ∙ rw (on, lt-ltb (next s p) end h))
-
--- an item behind another one starts where that ends, or later
-item-behind : (s : List ℕ) (p q : ℕ) → Among (items s) p → Among (items s) q → p < q → next s p ≤ q
-item-behind s p q a b h = go (chain-apart (next s) (checkPlace s) (next-grows s) 3 (a .0) (b .0) p q (a .1) (b .1))
-  where
-    go : Apart (next s) (checkPlace s) (next-grows s) p q → next s p ≤ q
-    go (inl e) = absurd (omega arith)
-    go (inr (inl e)) = e
-    go (inr (inr e)) = absurd (omega (arith, next-grows s q))
 
 -- ---- the rules
 module _ (k : Kinds) (s : List ℕ) where
@@ -128,14 +106,14 @@ module _ (k : Kinds) (s : List ℕ) where
       finds-tags s (Broken8 k s) (λ p. isOf k s 0x01 p && ltb (next s p) (checkPlace s))
       (λ z a e.
       let t = and-eq-true-iff (isOf k s 0x01 z) (ltb (next s z) (checkPlace s)) .0 e in
-      poolNotLast (pool-of z a (t .0)) (next s z) (item-next s z a (ltb-true (next s z) (checkPlace s) (t .1))) (next-grows s z))
+      poolNotLast (pool-of z a (t .0)) (next s z) (among-goes (next s) (checkPlace s) (next-grows s) 3 z a (ltb-true (next s z) (checkPlace s) (t .1))) (next-grows s z))
       (λ z b.
       elim b [
         | poolNotLast l p a h ↦ (
           l .0 .0,
           and-eq-true-iff (isOf k s 0x01 z) (ltb (next s z) (checkPlace s)) .1 (
             of-pool z l,
-            lt-ltb (next s z) (checkPlace s) (omega (arith, item-behind s z p (l .0 .0) a h, item-within s (a .0) p (a .1))),
+            lt-ltb (next s z) (checkPlace s) (omega (arith, among-behind (next s) (checkPlace s) (next-grows s) 3 z p (l .0 .0) a h, item-within s (a .0) p (a .1))),
           ),
         )
       ])

@@ -1,19 +1,17 @@
 -- A clause of a rule: what is looked for, where the clause is broken, and between which places that is. Clauses in ascending order of place that are looked for
 -- one after the other find the smallest place where any of them is broken. Assumes nothing.
-use Prim.Native.Nat.{ℕ, _+_, _≤_, _<_}
+use Prim.Native.Nat.{ℕ, _≤_, _<_}
 use mathlib.Core.Bool.{Bool}
 use mathlib.Core.List.{List, [], _∷_}
 use mathlib.Core.Logic.{_⊎_, inl, inr}
 use mathlib.Core.Path.{_≡_, refl, subst}
 use native.Mathlib.Omega.{arith}
-use Rattle.board_rules.specs.laws.BrokenTests.{Means, means-under, means-other}
 use Rattle.chain.specs.Finds.{Finds}
 use Rattle.chain.specs.First.{orElse, when}
 use Rattle.chain.specs.declared.Found.{Found}
 use Rattle.chain.specs.declared.Found.the-variants.{Nothing}
 use Rattle.chain.specs.laws.Finds.{finds-both, finds-when}
-use Rattle.octets.specs.Label.{badLabel, BadAt}
-use Rattle.octets.specs.laws.LabelBad.{finds-label}
+use Rattle.chain.specs.laws.Means.{Means, means-under, means-other}
 
 pub record Clause : Type 1 where
   pub found : Found
@@ -49,19 +47,6 @@ under f bound q = test (λ z. f z < bound) q (means-under (f q) bound)
 -- or not a number
 abbrev pub other : (ℕ → ℕ) → ℕ → ℕ → Clause
 other f n q = test (λ z. f z ≡ n → ⊥) q (means-other (f q) n)
-
--- ---- a label of sixteen bytes
-abbrev pub ofLabel : List ℕ → ℕ → Clause
-ofLabel s q =
-    record {
-      found = badLabel s q;
-      broken = BadAt s q;
-      finds = finds-label s q;
-      from = q;
-      upto = q + 15;
-      rises = omega arith;
-      within = λ z h. (omega (arith, h .stands), omega (arith, h .stands, h .bad .within));
-    }
 
 -- ---- several clauses
 abbrev pub foundIn : List Clause → Found
