@@ -14,8 +14,8 @@ use Rattle.board_layout.specs.declared.Records.{Records}
 use Rattle.board_layout.specs.declared.Records.the-variants.{Map, Gpio}
 use Rattle.board_layout.specs.declared.Shape.the-variants.{FpgaNfo, GpioDat}
 use Rattle.board_records.specs.Records.{recordFrom, recordTo}
-use Rattle.board_rules.specs.Rules.{covered, checkOver}
-use Rattle.chain.specs.Finds.{Among}
+use Rattle.board_rules.specs.Rules.{checkOver}
+use Rattle.chain.specs.Finds.{Among, Nowhere}
 use Rattle.chain.specs.Nth.{nth}
 use Rattle.chain.specs.declared.Found.the-variants.{At, Nothing}
 use Rattle.kinds.specs.Signatures.{eeprom, eeprMap, brdInfo, promSig}
@@ -53,6 +53,11 @@ module _ (k : Kinds) (s : List ℕ) where
   -- a record of known GPIO data, wholly within their Length, starts at r
   abbrev pub GpioRecordAt : ℕ → ℕ → Type 0
   GpioRecordAt p r = WholeAt p × HasRecords Gpio (shapeAt s p) × Among (records Gpio s p) r × (r + gpioRecordSize ≤ endAt s p)
+
+  -- "The expected CrcLength is StructLen, or the place of `$PromSig` plus 20h."
+  pub data Expected (n : ℕ) : Type 0 where
+    toStructLen : Nowhere PromSigAt → n ≡ structLen s → Expected n
+    toPromSig : (p : ℕ) → PromSigAt p → n ≡ p + 0x20 → Expected n
 
   -- ---- the rows: rule broken, place
   -- 20: under 30h or over 65,536 bytes lent; 0
@@ -102,8 +107,8 @@ module _ (k : Kinds) (s : List ℕ) where
 
   -- 27: Crc32; CrcLength; 14h; 18h
   pub data Broken27 (q : ℕ) : Type 0 where
-    wrongCrc : q ≡ Crc32 → (le32 s Crc32 ≡ checkOver s (covered s) → ⊥) → Broken27 q
-    wrongCrcLength : q ≡ CrcLength → (le32 s CrcLength ≡ covered s → ⊥) → Broken27 q
+    wrongCrc : (n : ℕ) → Expected n → q ≡ Crc32 → (le32 s q ≡ checkOver s n → ⊥) → Broken27 q
+    wrongCrcLength : (n : ℕ) → Expected n → q ≡ CrcLength → (le32 s q ≡ n → ⊥) → Broken27 q
 
   -- 28: `$BrdInfo` ends past 4,096; its start
   pub data Broken28 (q : ℕ) : Type 0 where

@@ -176,7 +176,7 @@ module _ (k : Kinds) (s : List ℕ) where
             row (λ q b. elim b [ Broken24.gapNonzero p a more from to h ↦ omega (arith, next-most most p a (walk p)) ]) λ _.
             row (order-most most) λ _.
             row (head-most most) λ head.
-            row (λ q b. elim b [ Broken27.wrongCrc e h ↦ omega arith | Broken27.wrongCrcLength e h ↦ omega arith ]) λ _.
+            row (λ q b. elim b [ Broken27.wrongCrc n x e h ↦ omega arith | Broken27.wrongCrcLength n x e h ↦ omega arith ]) λ _.
             row (λ q b. elim b [ Broken28.boardPast4096 a h ↦ start-most most q (2, a) ]) λ _.
             row (hash-most most walk) λ _.
             row (map-most most walk head) λ _.

@@ -3,8 +3,8 @@
 use Prim.Native.Nat.{ℕ, _+_, _*_, _≤_, _<_}
 use mathlib.Core.Bool.{Bool, true, false, not, cond, true≢false}
 use mathlib.Core.List.{List, [], _∷_}
-use mathlib.Core.Logic.{_⊎_, inl, inr, _↔_}
-use mathlib.Core.Path.{_≡_, refl, sym, subst, _∙_}
+use mathlib.Core.Logic.{_⊎_, inl, inr}
+use mathlib.Core.Path.{_≡_, refl, sym, _∙_}
 use native.Mathlib.Omega.{arith}
 use lib.Dec.{eqb, ltb, leb}
 use Rattle.board_fields.specs.Hash.{hashSize, isSigned, hashType, isSignable, badHashOf, badHash}
@@ -20,22 +20,15 @@ use Rattle.board_rules.specs.laws.BrokenRecords.{record-after, InRecord,
 use Rattle.chain.specs.Finds.{Finds}
 use Rattle.chain.specs.First.{first}
 use Rattle.chain.specs.Nth.{nth}
-use Rattle.chain.specs.declared.Found.{Found}
 use Rattle.chain.specs.declared.Found.the-variants.{At, Nothing}
 use Rattle.chain.specs.laws.Clauses.{Clause, test, over, under, other, several}
-use Rattle.chain.specs.laws.Finds.{finds-as, finds-both}
+use Rattle.chain.specs.laws.Finds.{finds-as, finds-one, finds-both}
 use Rattle.chain.specs.laws.First.{when-place}
 use Rattle.chain.specs.laws.Means.{means-above, means-false, Means, means-equal, means-under, means-other, means-both}
 use Rattle.chain.specs.laws.Steps.{steps-place}
 use Rattle.kinds.specs.declared.Kinds.{Kinds}
 use Rattle.octets.specs.Bytes.{byte, le16, le32}
 use Rattle.octets.specs.laws.LabelBad.{ofLabel}
-
--- a rule on the one place with a property
-finds-at : (P : ℕ → Type 0) (p : ℕ) → ((q : ℕ) → P q ↔ (q ≡ p)) → (B : ℕ → ℕ → Type 0) (f : Found) → Finds (B p) f → Finds (λ z. (q : ℕ) × (P q × B q z)) f
-finds-at P p is B f =
-    finds-as (B p) (λ z. (q : ℕ) × (P q × B q z)) (λ z b. (p, (is p .1 refl, b)))
-    (λ z x. subst (λ (q : ℕ). B q z) (is (x .0) .0 (x .1 .0)) (x .1 .1)) f
 
 -- ---- what is asked of one structure
 -- a Length that does not fit: by the signed flag, not e, or under e
@@ -139,7 +132,7 @@ module _ (k : Kinds) (s : List ℕ) where
   unfolding rule29
   finds29 head order =
       finds-as HashBroken (Broken29 k s) to back (rule29 s)
-      (finds-on-prom-sig k s head order (badHash s) (λ p. hashAt s p .broken) (λ p a. finds-hash s p))
+      (finds-on-prom-sig k s head order (badHash s) (λ p. hashAt s p .broken) (finds-hash s))
     where
       to : (z : ℕ) → HashBroken z → Broken29 k s z
       to z (p, (a, inl (place, b))) = Broken29.hashTypeOver5 p a place b
@@ -162,7 +155,7 @@ module _ (k : Kinds) (s : List ℕ) where
   unfolding rule30
   finds30 order =
       finds-as MapBroken (Broken30 k s) to back (rule30 s)
-      (finds-at (Second k s) (mapAt s) (second-is k s order) (InMap s) (rule30 s) (finds-map s (mapAt s)))
+      (finds-one (Second k s) (mapAt s) (second-is k s order) (InMap s) (rule30 s) (finds-map s (mapAt s)))
     where
       to : (z : ℕ) → MapBroken z → Broken30 k s z
       to z (m, (e, inl (inl b))) = Broken30.partLabel m e b
@@ -200,7 +193,7 @@ module _ (k : Kinds) (s : List ℕ) where
   unfolding rule31 badBoardType
   finds31 order =
       finds-as BoardBroken (Broken31 k s) to back (rule31 s)
-      (finds-at (Third k s) (boardAt s) (third-is k s order) (λ p. over (byte s) 1 (p + BoardType) .broken) (rule31 s)
+      (finds-one (Third k s) (boardAt s) (third-is k s order) (λ p. over (byte s) 1 (p + BoardType) .broken) (rule31 s)
       (over (byte s) 1 (boardAt s + BoardType) .finds))
     where
       to : (z : ℕ) → BoardBroken z → Broken31 k s z

@@ -2,15 +2,18 @@
 use Prim.Native.Nat.{ℕ}
 use mathlib.Core.List.{List, [], _∷_}
 use mathlib.Core.Logic.{inl, inr}
+use mathlib.Core.Path.{_≡_}
 use native.Mathlib.Omega.{arith}
 use lib.ListN.{length}
 use Rattle.board_layout.specs.Layout.{signatureAt, majorAt, lengthAt, structLen}
 use Rattle.board_layout.specs.Places.{StructLen, Crc32, CrcLength}
-use Rattle.board_rules.specs.Broken.{Broken20, Broken21, Broken22, Broken27}
-use Rattle.board_rules.specs.Rules.{headerLength, rule20, rule21, rule22, covered, checkOver, rule27}
+use Rattle.board_rules.specs.Broken.{Expected, Broken20, Broken21, Broken22, Broken27}
+use Rattle.board_rules.specs.Rules.{headerLength, rule20, rule21, rule22, rule25, covered, checkOver, rule27}
+use Rattle.board_rules.specs.laws.BrokenPlaces.{expected-is}
 use Rattle.chain.specs.Finds.{Finds}
+use Rattle.chain.specs.declared.Found.the-variants.{Nothing}
 use Rattle.chain.specs.laws.Clauses.{Clause, over, under, other, foundIn, AnyOf, finds-any}
-use Rattle.chain.specs.laws.Finds.{finds-as}
+use Rattle.chain.specs.laws.Finds.{finds-as, finds-one}
 use Rattle.kinds.specs.Signatures.{eeprom}
 use Rattle.kinds.specs.declared.Kinds.{Kinds}
 use Rattle.octets.specs.Bytes.{le32}
@@ -74,20 +77,26 @@ module _ (k : Kinds) (s : List ℕ) where
       back z (Broken22.structLenUnder e h) = inl (e, h)
       back z (Broken22.structLenAbove e h) = inr (inl (e, h))
 
-  -- ---- rule 27: Crc32 lies before CrcLength
-  abbrev checkTests : List Clause
-  checkTests =
-      other (λ z. le32 s Crc32) (checkOver s (covered s)) Crc32 ∷ other (λ z. le32 s CrcLength) (covered s) CrcLength ∷ []
+  -- ---- rule 27, with n as the expected CrcLength: Crc32 lies before CrcLength
+  abbrev checkTests : ℕ → List Clause
+  checkTests n = other (le32 s) (checkOver s n) Crc32 ∷ other (le32 s) n CrcLength ∷ []
 
-  pub finds27 : Finds (Broken27 k s) (rule27 s)
+  abbrev Mischecked : ℕ → Type 0
+  Mischecked z = (n : ℕ) × (Expected k s n × AnyOf (checkTests n) z)
+
+  -- by rules 21 and 25 there is one such n
+  pub finds27 : rule21 s ≡ Nothing → rule25 s ≡ Nothing → Finds (Broken27 k s) (rule27 s)
   unfolding rule27
-  finds27 = finds-as (AnyOf checkTests) (Broken27 k s) to back (foundIn checkTests) (finds-any checkTests Crc32 CrcLength (omega arith))
+  finds27 head order =
+      finds-as Mischecked (Broken27 k s) to back (rule27 s)
+      (finds-one (Expected k s) (covered s) (expected-is k s head order) (λ n. AnyOf (checkTests n)) (rule27 s)
+      (finds-any (checkTests (covered s)) Crc32 CrcLength (omega arith)))
     where
-      to : (z : ℕ) → AnyOf checkTests z → Broken27 k s z
-      to z (inl h) = Broken27.wrongCrc (h .0) (h .1)
-      to z (inr (inl h)) = Broken27.wrongCrcLength (h .0) (h .1)
-      to z (inr (inr h)) = absurd h
+      to : (z : ℕ) → Mischecked z → Broken27 k s z
+      to z (n, (x, inl (e, h))) = Broken27.wrongCrc n x e h
+      to z (n, (x, inr (inl (e, h)))) = Broken27.wrongCrcLength n x e h
+      to z (n, (x, inr (inr h))) = absurd h
 
-      back : (z : ℕ) → Broken27 k s z → AnyOf checkTests z
-      back z (Broken27.wrongCrc e h) = inl (e, h)
-      back z (Broken27.wrongCrcLength e h) = inr (inl (e, h))
+      back : (z : ℕ) → Broken27 k s z → Mischecked z
+      back z (Broken27.wrongCrc n x e h) = (n, (x, inl (e, h)))
+      back z (Broken27.wrongCrcLength n x e h) = (n, (x, inr (inl (e, h))))

@@ -91,7 +91,7 @@ module _ (k : Kinds) (s : List ℕ) where
       (finds-map-head s (mapAt s))
       (finds-both (b .broken) PromSigBad (badBoardHead s (boardAt s)) (orElse f Nothing) (finds-board-head s (boardAt s))
       (subst (Finds PromSigBad) (sym (orElse-nothing f))
-      (finds-on-prom-sig k s head order (badPromSigHead s) (λ p. promSigHead s p .broken) (λ p a. finds-prom-sig-head s p)))
+      (finds-on-prom-sig k s head order (badPromSigHead s) (λ p. promSigHead s p .broken) (finds-prom-sig-head s)))
       (λ y z h x. omega (arith, b .within y h .1, prom-sig-after head order z x, next-grows s (boardAt s))))
       (λ y z h x.
       elim x [

@@ -9,13 +9,14 @@ use native.Mathlib.Omega.{arith}
 use lib.Dec.{eqb, ltb}
 use borrow.Author.Tests.{ltb-true, lt-ltb, eqb-true, eq-eqb}
 use Rattle.board_layout.specs.Layout.{signatureAt, structLen, next, structures, mapAt, boardAt, laterAt}
+use Rattle.board_layout.specs.Places.{EepromSig}
 use Rattle.board_layout.specs.laws.Layout.{next-grows, end-next, structure-below}
-use Rattle.board_rules.specs.Broken.{StructureAt, Second, Third, PromSigAt}
-use Rattle.board_rules.specs.Rules.{rule21, rule25, isPromSig, promSigAt, onFound}
+use Rattle.board_rules.specs.Broken.{StructureAt, Second, Third, PromSigAt, Expected}
+use Rattle.board_rules.specs.Rules.{rule21, rule25, isPromSig, promSigAt, onFound, coveredUpTo, covered}
 use Rattle.board_rules.specs.laws.Heads.{Last, prom-sig-last}
 use Rattle.board_rules.specs.laws.Order.{map-second, board-third}
 use Rattle.chain.specs.Chain.{chain}
-use Rattle.chain.specs.Finds.{Finds}
+use Rattle.chain.specs.Finds.{Finds, Nowhere}
 use Rattle.chain.specs.First.{when}
 use Rattle.chain.specs.Nth.{nth}
 use Rattle.chain.specs.declared.Found.{Found}
@@ -23,8 +24,8 @@ use Rattle.chain.specs.declared.Found.the-variants.{At, Nothing}
 use Rattle.chain.specs.laws.Among.{nth-start, nth-next}
 use Rattle.chain.specs.laws.Apart.{among-behind}
 use Rattle.chain.specs.laws.Below.{below}
-use Rattle.chain.specs.laws.Finds.{finds-as, finds-when, finds-along}
-use Rattle.chain.specs.laws.First.{at-nothing, when-place, when-test}
+use Rattle.chain.specs.laws.Finds.{finds-as, found-is, found-none, finds-one, finds-when, finds-along}
+use Rattle.chain.specs.laws.First.{when-place, when-test}
 use Rattle.chain.specs.laws.Nth.{nth-all}
 use Rattle.kinds.specs.Signatures.{promSig}
 use Rattle.kinds.specs.declared.Kinds.{Kinds}
@@ -110,8 +111,8 @@ module _ (k : Kinds) (s : List ℕ) where
       back z h = (z, (h .0, (refl, h .1)))
 
   -- rules 21 and 25 find nothing: a `$PromSig` is the last structure, so there is but one
-  prom-sig-one : rule21 s ≡ Nothing → rule25 s ≡ Nothing → (p q : ℕ) → PromSigAt k s p → StructureAt k s q → q ≤ p
-  prom-sig-one head e p q a b =
+  prom-sig-ends : rule21 s ≡ Nothing → rule25 s ≡ Nothing → (p q : ℕ) → PromSigAt k s p → StructureAt k s q → q ≤ p
+  prom-sig-ends head e p q a b =
       elim (below p q) [
         | inl h ↦
             let l = nth-all (Last s) (structures s) (a .0 .0) p (prom-sig-last s head e) (a .0 .1) (a .1) in
@@ -120,28 +121,40 @@ module _ (k : Kinds) (s : List ℕ) where
       ]
 
   -- and it is the one that is found
-  prom-sig-is : rule21 s ≡ Nothing → rule25 s ≡ Nothing → (p : ℕ) → PromSigAt k s p ↔ (promSigAt s ≡ At p)
-  prom-sig-is head e p = (to (promSigAt s) prom-sig-finds, back (promSigAt s) prom-sig-finds)
-    where
-      to : (f : Found) → Finds (PromSigAt k s) f → PromSigAt k s p → f ≡ At p
-      to (At q) h a = ap At (omega (arith, h .1 p a, prom-sig-one head e q p (h .0) (a .0)))
-      to Nothing h a = absurd (h p a)
+  prom-sig-one : rule21 s ≡ Nothing → rule25 s ≡ Nothing → (q : ℕ) → promSigAt s ≡ At q → (p : ℕ) → PromSigAt k s p ↔ (p ≡ q)
+  prom-sig-one head e q d p =
+      let h = found-is (PromSigAt k s) (promSigAt s) q prom-sig-finds d in
+      (λ a. omega (arith, h .1 p a, prom-sig-ends head e q p (h .0) (a .0)), λ i. subst (PromSigAt k s) (sym i) (h .0))
 
-      back : (f : Found) → Finds (PromSigAt k s) f → f ≡ At p → PromSigAt k s p
-      back (At q) h d = let i : q ≡ p = cc in subst (PromSigAt k s) i (h .0)
-      back Nothing h d = absurd (at-nothing (sym d))
+  -- if any is
+  prom-sig-none : promSigAt s ≡ Nothing → Nowhere (PromSigAt k s)
+  prom-sig-none d = found-none (PromSigAt k s) (promSigAt s) prom-sig-finds d
 
   -- so a rule on the one that is found is a rule on a `$PromSig`
-  pub finds-on-prom-sig : rule21 s ≡ Nothing → rule25 s ≡ Nothing → (rule : ℕ → Found) (B : ℕ → ℕ → Type 0) → ((p : ℕ) → PromSigAt k s p → Finds (B p) (rule p))
+  pub finds-on-prom-sig : rule21 s ≡ Nothing → rule25 s ≡ Nothing → (rule : ℕ → Found) (B : ℕ → ℕ → Type 0) → ((p : ℕ) → Finds (B p) (rule p))
       → Finds (λ z. (p : ℕ) × (PromSigAt k s p × B p z)) (onFound rule (promSigAt s))
   finds-on-prom-sig head e rule B each = go (promSigAt s) refl
     where
-      one : (q : ℕ) → promSigAt s ≡ At q → (p : ℕ) → PromSigAt k s p → p ≡ q
-      one q d p a = let c : promSigAt s ≡ At p = prom-sig-is head e p .0 a in cc
-
       go : (f : Found) → promSigAt s ≡ f → Finds (λ z. (p : ℕ) × (PromSigAt k s p × B p z)) (onFound rule f)
-      go (At q) d =
-          let a : PromSigAt k s q = prom-sig-is head e q .1 d in
-          finds-as (B q) (λ z. (p : ℕ) × (PromSigAt k s p × B p z)) (λ z b. (q, (a, b)))
-          (λ z x. subst (λ (p : ℕ). B p z) (one q d (x .0) (x .1 .0)) (x .1 .1)) (rule q) (each q a)
-      go Nothing d = λ z x. at-nothing (sym (prom-sig-is head e (x .0) .0 (x .1 .0)) ∙ d)
+      go (At q) d = finds-one (PromSigAt k s) q (prom-sig-one head e q d) B (rule q) (each q)
+      go Nothing d = λ z x. prom-sig-none d (x .0) (x .1 .0)
+
+  -- and the expected CrcLength is what rule 27 goes by
+  pub expected-is : rule21 s ≡ Nothing → rule25 s ≡ Nothing → (n : ℕ) → Expected k s n ↔ (n ≡ covered s)
+  unfolding covered
+  expected-is head e n = go (promSigAt s) refl
+    where
+      go : (f : Found) → promSigAt s ≡ f → Expected k s n ↔ (n ≡ coveredUpTo (structLen s) f)
+      go (At q) d = (to, Expected.toPromSig q there)
+        where
+          there : PromSigAt k s q
+          there = prom-sig-one head e q d q .1 refl
+
+          to : Expected k s n → n ≡ q + EepromSig
+          to (Expected.toStructLen none i) = absurd (none q there)
+          to (Expected.toPromSig p a i) = omega (arith, i, prom-sig-one head e q d p .0 a)
+      go Nothing d = (to, Expected.toStructLen (prom-sig-none d))
+        where
+          to : Expected k s n → n ≡ structLen s
+          to (Expected.toStructLen none i) = i
+          to (Expected.toPromSig p a i) = absurd (prom-sig-none d p a)

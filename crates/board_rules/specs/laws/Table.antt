@@ -26,7 +26,7 @@ module _ (k : Kinds) (s : List ℕ) where
   pub searched : Searched (table k s) (rules k s)
   searched =
       row (finds20 k s) λ e20. row (finds21 k s) λ e21. row (finds22 k s) λ e22. row (finds23 k s) λ e23. row (finds24 k s) λ e24.
-      row (finds25 k s e21 e23) λ e25. row (finds26 k s e21 e25) λ e26. row (finds27 k s) λ e27. row (finds28 k s e25) λ e28.
+      row (finds25 k s e21 e23) λ e25. row (finds26 k s e21 e25) λ e26. row (finds27 k s e21 e25) λ e27. row (finds28 k s e25) λ e28.
       row (finds29 k s e21 e25) λ e29. row (finds30 k s e25) λ e30. row (finds31 k s e25) λ e31. row (finds32 k s) λ e32. row (finds33 k s) λ e33. tt
 
   -- refused with n at p: n is the first row that is broken, and p its smallest place

@@ -3,11 +3,11 @@
 use Prim.Native.Nat.{ℕ, zero, suc, _≤_, _<_}
 use mathlib.Core.Bool.{Bool, true, false, cond, true≢false}
 use mathlib.Core.List.{List, _∷_}
-use mathlib.Core.Logic.{_⊎_, inl, inr}
+use mathlib.Core.Logic.{_⊎_, inl, inr, _↔_}
 use mathlib.Core.Path.{_≡_, refl, sym, subst, _∙_}
 use native.Mathlib.Omega.{arith}
 use Rattle.chain.specs.Chain.{chain, range}
-use Rattle.chain.specs.Finds.{Among, Nowhere, Finds}
+use Rattle.chain.specs.Finds.{Among, Smallest, Nowhere, Finds}
 use Rattle.chain.specs.First.{orElse, when, first, search}
 use Rattle.chain.specs.Nth.{nth}
 use Rattle.chain.specs.declared.Found.{Found}
@@ -25,9 +25,18 @@ pub finds-as : (B C : ℕ → Type 0) → ((z : ℕ) → B z → C z) → ((z : 
 finds-as B C to back (At p) h = (to p (h .0), λ q c. h .1 q (back q c))
 finds-as B C to back Nothing h = λ q c. h q (back q c)
 
--- where nothing is found, no place has the property
+-- what is found is the smallest place with the property, and where nothing is, no place has it
+pub found-is : (B : ℕ → Type 0) (f : Found) (p : ℕ) → Finds B f → f ≡ At p → Smallest B p
+found-is B f p h e = subst (Finds B) e h
+
 pub found-none : (B : ℕ → Type 0) (f : Found) → Finds B f → f ≡ Nothing → Nowhere B
 found-none B f h e = subst (Finds B) e h
+
+-- ---- a rule on the one number with a property
+pub finds-one : (P : ℕ → Type 0) (p : ℕ) → ((q : ℕ) → P q ↔ (q ≡ p)) → (B : ℕ → ℕ → Type 0) (f : Found) → Finds (B p) f → Finds (λ z. (q : ℕ) × (P q × B q z)) f
+finds-one P p is B f =
+    finds-as (B p) (λ z. (q : ℕ) × (P q × B q z)) (λ z b. (p, (is p .1 refl, b)))
+    (λ z x. subst (λ (q : ℕ). B q z) (is (x .0) .0 (x .1 .0)) (x .1 .1)) f
 
 -- ---- one test of one place
 pub finds-when : (B : ℕ → Type 0) (b : Bool) (q : ℕ) → (b ≡ true → B q) → ((z : ℕ) → B z → (z ≡ q) × (b ≡ true)) → Finds B (when b q)
