@@ -2,7 +2,6 @@
 pub mod Rules
 pub mod Judged
 pub mod Broken
-pub mod Tests
 pub mod Findings
 pub mod Examples
 pub mod laws

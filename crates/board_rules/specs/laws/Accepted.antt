@@ -1,9 +1,9 @@
 -- What acceptance gives: no rule of the table is broken, and what the rules say in numbers of what is lent, the header, the structures, the map with its
 -- records, the board and the check. Assumes nothing.
-use Prim.Native.Nat.{ℕ, suc, _+_, _*_, _%_, _≤_, _<_}
+use Prim.Native.Nat.{ℕ, _+_, _*_, _%_, _≤_, _<_}
 use mathlib.Core.Bool.{not}
 use mathlib.Core.List.{List, [], _∷_}
-use mathlib.Core.Path.{_≡_, sym, ap, _∙_}
+use mathlib.Core.Path.{_≡_, ap}
 use native.Mathlib.Omega.{arith}
 use lib.Dec.{eqb, ltb}
 use lib.ListN.{length}
@@ -22,7 +22,6 @@ use Rattle.chain.specs.Chain.{chain}
 use Rattle.chain.specs.First.{when}
 use Rattle.chain.specs.Nth.{nth}
 use Rattle.chain.specs.declared.Found.the-variants.{At, Nothing}
-use Rattle.chain.specs.laws.All.{all-map}
 use Rattle.kinds.specs.Signatures.{eeprom, eeprMap, brdInfo}
 use Rattle.kinds.specs.declared.Kinds.{Kinds}
 use Rattle.octets.specs.Bytes.{le32}
@@ -95,11 +94,6 @@ module _ (k : Kinds) (s : List ℕ) (n : ℕ) (e : judged k s ≡ Accepted n) wh
   pub structures-are : structures s ≡ 0 ∷ mapAt s ∷ boardAt s ∷ chain (next s) (structLen s) (laterAt s)
   structures-are = walk.structures-are s kept25
 
-  -- there are at least three
-  pub count-least : 3 ≤ n
-  count-least =
-      let l : n ≡ suc (suc (suc (length (chain (next s) (structLen s) (laterAt s))))) = sym accepted-count ∙ ap length structures-are in omega (arith, l)
-
   -- ---- rules 23 and 24
   -- each structure has its room, '$' and head, ends by StructLen, and is the last or has another after it
   pub structures-fit : All (Fits s) (structures s)
@@ -108,12 +102,6 @@ module _ (k : Kinds) (s : List ℕ) (n : ℕ) (e : judged k s ≡ Accepted n) wh
   -- so do the header, the map and the board
   pub three-fit : Fits s 0 × Fits s (mapAt s) × Fits s (boardAt s)
   three-fit = walk.first-three s (Fits s) kept25 structures-fit
-
-  -- each structure's head and end lie within StructLen, and so within what is lent
-  pub structures-within : All (λ p. (p + 16 ≤ structLen s) × (endAt s p ≤ structLen s) × (p + 16 ≤ length s) × (endAt s p ≤ length s)) (structures s)
-  structures-within =
-      all-map (Fits s) (λ p. (p + 16 ≤ structLen s) × (endAt s p ≤ structLen s) × (p + 16 ≤ length s) × (endAt s p ≤ length s))
-      (λ p f. (f .room, f .ends, omega (arith, f .room, struct-len-within .1), omega (arith, f .ends, struct-len-within .1))) (structures s) structures-fit
 
   -- the bytes between them are zero
   pub gaps-zero : All (walk.GapZero s) (structures s)

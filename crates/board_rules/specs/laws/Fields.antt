@@ -1,30 +1,29 @@
--- What acceptance gives of fields, rules 29 to 33: the hash fits, the map's fields and records and BoardType are good, and in no known structure a reserved
+-- What acceptance gives of fields, rules 30, 32 and 33: the map's fields and records are good, and in no known structure a reserved
 -- byte or a field is bad. Assumes nothing.
 use Prim.Native.Nat.{ℕ, _+_, _*_, _≤_, _<_}
 use mathlib.Core.Bool.{true, not}
 use mathlib.Core.List.{List, [], _∷_}
-use mathlib.Core.Path.{_≡_, sym, ap, _∙_}
+use mathlib.Core.Path.{_≡_, ap, _∙_}
 use native.Mathlib.Omega.{arith}
 use lib.Dec.{eqb, ltb}
 use borrow.Author.Tests.{eqb-false}
-use Rattle.board_fields.specs.Hash.{badHash}
 use Rattle.board_fields.specs.Inside.{badInside}
-use Rattle.board_fields.specs.Map.{badMapField, badMap, badBoardType}
+use Rattle.board_fields.specs.Map.{badMapField, badMap}
 use Rattle.board_fields.specs.Reserved.{reservedUsed}
-use Rattle.board_layout.specs.Layout.{shapeAt, structLen, structures, mapAt, boardAt, records, mapCount}
-use Rattle.board_layout.specs.Places.{PartLabel, BlkLength, PartSize, Master, Speed, BoardType, MapData, MapLabel, MapLength, MapOffset, Address, mapRecordSize}
+use Rattle.board_layout.specs.Layout.{shapeAt, structLen, structures, mapAt, records, mapCount}
+use Rattle.board_layout.specs.Places.{PartLabel, BlkLength, PartSize, Master, Speed, MapData, MapLabel, MapLength, MapOffset, Address, mapRecordSize}
 use Rattle.board_layout.specs.Shapes.{knows}
 use Rattle.board_layout.specs.declared.Records.the-variants.{Map}
 use Rattle.board_layout.specs.declared.Shape.{Shape}
 use Rattle.board_records.specs.Records.{mapNumber, badMapRecord}
 use Rattle.board_rules.specs.Judged.{judged}
-use Rattle.board_rules.specs.Rules.{promSigAt, onFound, rule29, rule30, rule31, onKnown, rule32, rule33}
+use Rattle.board_rules.specs.Rules.{rule30, onKnown, rule32, rule33}
 use Rattle.board_rules.specs.laws.Accepted.{accepted-clear, record-place}
 use Rattle.chain.specs.laws.Checks.{checks-none, kept-equal, kept-under, under-mark}
 use Rattle.chain.specs.All.{All}
 use Rattle.chain.specs.First.{first, when}
 use Rattle.chain.specs.declared.Found.{Found}
-use Rattle.chain.specs.declared.Found.the-variants.{At, Nothing}
+use Rattle.chain.specs.declared.Found.the-variants.{Nothing}
 use Rattle.chain.specs.laws.All.{all-map}
 use Rattle.chain.specs.laws.First.{first-all, orElse-left, orElse-right, when-nothing}
 use Rattle.chain.specs.laws.Nth.{nth-all}
@@ -97,11 +96,6 @@ good-fields s m e =
     }
 
 module _ (k : Kinds) (s : List ℕ) (n : ℕ) (e : judged k s ≡ Accepted n) where
-  -- rule 29: HashType and Length of a `$PromSig`
-  pub hash-fits : (p : ℕ) → promSigAt s ≡ At p → badHash s p ≡ Nothing
-  unfolding rule29
-  hash-fits p d = sym (ap (onFound (badHash s)) d) ∙ accepted-clear k s n e .1 .1 .1 .1 .1 .1 .1 .1 .1 .0
-
   -- rule 30 is not broken
   kept30 : badMap s (mapAt s) ≡ Nothing
   unfolding rule30
@@ -126,12 +120,6 @@ module _ (k : Kinds) (s : List ℕ) (n : ℕ) (e : judged k s ≡ Accepted n) wh
       let g : GoodMapRecord s (mapAt s) r = nth-all (GoodMapRecord s (mapAt s)) (records Map s (mapAt s)) i r map-records (record-place k s n e i h) in
       let j : mapNumber (mapAt s) r ≡ i = omega arith in
       g .offset ∙ ap (λ (x : ℕ). x * le32 s (mapAt s + BlkLength)) j
-
-  -- rule 31: BoardType
-  pub board-type : byte s (boardAt s + BoardType) ≤ 1
-  unfolding rule31 badBoardType
-  board-type =
-      kept-under 1 (byte s (boardAt s + BoardType)) (boardAt s + BoardType) (accepted-clear k s n e .1 .1 .1 .1 .1 .1 .1 .1 .1 .1 .1 .0)
 
   -- rule 32: no reserved byte of a known structure with VerMinor 0 is used
   pub reserved-zero : All (λ p. knows k (shapeAt s p) ≡ true → reservedUsed s p (shapeAt s p) ≡ Nothing) (structures s)

@@ -21,7 +21,7 @@ use Rattle.chain.specs.declared.Found.{Found}
 use Rattle.chain.specs.declared.Found.the-variants.{At, Nothing}
 use Rattle.chain.specs.laws.All.{all-map}
 use Rattle.chain.specs.laws.Chain.{chain-more}
-use Rattle.chain.specs.laws.First.{Hit, first-all, first-none, first-hit, hit-holds, when-place, when-nothing}
+use Rattle.chain.specs.laws.First.{Hit, first-all, first-hit, hit-holds, when-place, when-nothing}
 use Rattle.kinds.specs.Signatures.{promSig}
 use Rattle.octets.specs.Bytes.{byte}
 use Rattle.octets.specs.Label.{dollar}
@@ -98,12 +98,6 @@ module _ (s : List ℕ) where
   pub walk-fits : rule23 s ≡ Nothing → All (Fits s) (structures s)
   unfolding rule23
   walk-fits e = all-map (λ p. misplaced s p ≡ Nothing) (Fits s) fits (structures s) (first-all (misplaced s) (structures s) e)
-
-  -- conversely
-  pub fits-walk : All (Fits s) (structures s) → rule23 s ≡ Nothing
-  unfolding rule23
-  fits-walk a =
-      first-none (misplaced s) (structures s) (all-map (Fits s) (λ p. misplaced s p ≡ Nothing) fits-clear (structures s) a)
 
   -- a `$PromSig` that is found fits
   pub prom-sig-fits : rule23 s ≡ Nothing → (p : ℕ) → promSigAt s ≡ At p → Fits s p

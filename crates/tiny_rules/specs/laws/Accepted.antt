@@ -1,5 +1,4 @@
--- What acceptance gives: no rule of the table is broken, and what each rule says in numbers. A rule along the items gives a fact of each item; a rule along
--- the pool's bytes gives a fact of each byte. And an image that breaks no rule is accepted. Assumes nothing.
+-- What acceptance gives: no rule of the table is broken, and what the rules say in numbers. A rule along the items gives a fact of each item. Assumes nothing.
 use Prim.Native.Nat.{ℕ, _+_, _≤_, _<_}
 use mathlib.Core.Bool.{true, false, not, _&&_, _||_, and-eq-true-iff}
 use mathlib.Core.List.{List}
@@ -7,7 +6,7 @@ use mathlib.Core.Path.{_≡_, refl}
 use native.Mathlib.Omega.{arith}
 use lib.Dec.{eqb, ltb, leb}
 use lib.ListN.{length, take}
-use borrow.Author.Tests.{ltb-false, leb-false, eqb-false, eq-eqb, not-false}
+use borrow.Author.Tests.{ltb-false, leb-false, eq-eqb, not-false}
 use Rattle.chain.specs.All.{All}
 use Rattle.chain.specs.First.{first}
 use Rattle.chain.specs.declared.Found.{Found}
@@ -20,20 +19,19 @@ use Rattle.kinds.specs.Kinds.{listed}
 use Rattle.kinds.specs.declared.Kind.the-variants.{Tag}
 use Rattle.kinds.specs.declared.Kinds.{Kinds}
 use Rattle.octets.specs.Bytes.{byte}
-use Rattle.octets.specs.Label.{isText}
 use Rattle.tiny_layout.specs.Layout.{total, checkPlace, dataAt, next, items}
 use Rattle.tiny_layout.specs.Pool.{knownOf, poolAt, pool}
-use Rattle.tiny_layout.specs.Strings.{isMarked, letter, texts}
+use Rattle.tiny_layout.specs.Strings.{isMarked, texts}
 use Rattle.tiny_layout.specs.Tags.{shapeOf, indexCount}
 use Rattle.tiny_layout.specs.declared.Shape.{Shape}
 use Rattle.tiny_layout.specs.laws.Layout.{items-within}
 use Rattle.tiny_layout.specs.laws.Pool.{known-holds}
 use Rattle.tiny_rules.specs.Judged.{rules, judged}
-use Rattle.tiny_rules.specs.Rules.{noCharacter, endUnmarked, rule2, rule3, rule4, rule5, passes, rule6, reserved, rule7, early, rule8, rule9, onKnown, badIndex, rule10, badField, rule11}
+use Rattle.tiny_rules.specs.Rules.{noCharacter, endUnmarked, rule2, rule3, rule4, rule5, passes, rule6, early, rule8, rule9, onKnown, badIndex, rule10}
 use Rattle.chain.specs.laws.Checks.{neither, second-fails, kept-equal, under-mark}
 use Rattle.verdict.specs.declared.Judged.{Judged}
 use Rattle.verdict.specs.declared.Judged.the-variants.{Accepted}
-use Rattle.verdict.specs.laws.Accepted.{Clear, clear, after, passed}
+use Rattle.verdict.specs.laws.Accepted.{Clear, clear, after}
 
 -- a rule on the known items that finds nothing is not broken by the data of any known item
 known-clear :
@@ -66,11 +64,6 @@ unpassed-pool k s e = go (first (knownOf k s 0x01) (items s)) refl
     go : (f : Found) → first (knownOf k s 0x01) (items s) ≡ f → poolAt s f .to ≤ checkPlace s
     go (At p) d = known-holds k s 0x01 p (λ q. (3 ≤ q) × (next s q ≤ checkPlace s)) (unpassed-fit s e) d .2 .1
     go Nothing d = omega arith
-
--- an image that breaks no rule is accepted, with the count of its items
-pub clear-accepted : (k : Kinds) (s : List ℕ) → Clear (rules k s) → judged k s ≡ Accepted (length (items s))
-unfolding judged
-clear-accepted k s c = passed (rules k s) (Accepted (length (items s))) c
 
 module _ (k : Kinds) (s : List ℕ) (n : ℕ) (e : judged k s ≡ Accepted n) where
   -- no rule is broken
@@ -106,14 +99,6 @@ module _ (k : Kinds) (s : List ℕ) (n : ℕ) (e : judged k s ≡ Accepted n) wh
   pub items-fit : All (λ p. (3 ≤ p) × (next s p ≤ checkPlace s)) (items s)
   items-fit = unpassed-fit s (accepted-clear .1 .1 .1 .1 .1 .0)
 
-  -- rule 7: no item has the tag 00
-  pub no-reserved : All (λ p. byte s p ≡ 0x00 → ⊥) (items s)
-  unfolding rule7
-  no-reserved =
-      all-map (λ p. reserved s p ≡ Nothing) (λ p. byte s p ≡ 0x00 → ⊥)
-      (λ p c. eqb-false (byte s p) 0x00 (when-nothing (eqb (byte s p) 0x00) p c)) (items s)
-      (first-all (reserved s) (items s) (accepted-clear .1 .1 .1 .1 .1 .1 .0))
-
   -- rule 8: a listed pool ends where the items end
   pub pool-last : All (λ p. listed k (Tag 0x01) ≡ true → byte s p ≡ 0x01 → next s p ≡ checkPlace s) (items s)
   unfolding rule8
@@ -135,24 +120,16 @@ module _ (k : Kinds) (s : List ℕ) (n : ℕ) (e : judged k s ≡ Accepted n) wh
   pub pool-fits : pool k s .to ≤ checkPlace s
   pool-fits = unpassed-pool k s (accepted-clear .1 .1 .1 .1 .1 .0)
 
-  -- rule 9 at each byte of the pool
-  pool-byte : (p : ℕ) → pool k s .from ≤ p → p < pool k s .to
-      → (noCharacter s p ≡ false) × (endUnmarked s (pool k s .to) p ≡ false)
-  unfolding rule9
-  pool-byte p h l =
-      neither (noCharacter s p) (endUnmarked s (pool k s .to) p)
-      (range-none (λ q. noCharacter s q || endUnmarked s (pool k s .to) q) (λ q. q) (pool k s .to) (pool k s .from)
-      (accepted-clear .1 .1 .1 .1 .1 .1 .1 .1 .0) p h l)
-
-  -- each byte of the pool is a character, its end mark cleared
-  pub pool-text : (p : ℕ) → pool k s .from ≤ p → p < pool k s .to → isText (letter (byte s p)) ≡ true
-  pool-text p h l = not-false (isText (letter (byte s p))) (pool-byte p h l .0)
-
-  -- and the last one is marked
+  -- rule 9: the pool's last byte is marked
   pub pool-ends : (p : ℕ) → pool k s .from ≤ p → p + 1 ≡ pool k s .to → isMarked (byte s p) ≡ true
+  unfolding rule9
   pool-ends p h l =
+      let to : ℕ = pool k s .to in
       not-false (isMarked (byte s p))
-      (second-fails (eqb (p + 1) (pool k s .to)) (not (isMarked (byte s p))) (pool-byte p h (omega arith) .1) (eq-eqb (p + 1) (pool k s .to) l))
+      (second-fails (eqb (p + 1) to) (not (isMarked (byte s p)))
+      (neither (noCharacter s p) (endUnmarked s to p)
+      (range-none (λ q. noCharacter s q || endUnmarked s to q) (λ q. q) to (pool k s .from) (accepted-clear .1 .1 .1 .1 .1 .1 .1 .1 .0) p h (omega arith)) .1)
+      (eq-eqb (p + 1) to l))
 
   -- rule 10: where 01 is listed, each index of a known item is below the string count
   pub indexes-resolve : listed k (Tag 0x01) ≡ true → All (λ p. listed k (Tag (byte s p)) ≡ true → (i : ℕ) → i < indexCount (shapeOf (byte s p)) → byte s (dataAt s p + i) < length (texts s (pool k s))) (items s)
@@ -167,8 +144,3 @@ module _ (k : Kinds) (s : List ℕ) (n : ℕ) (e : judged k s ≡ Accepted n) wh
       (items s)
       (known-clear k s (badIndex s count)
       (under-mark (listed k (Tag 0x01)) (first (onKnown k s (badIndex s count)) (items s)) (accepted-clear .1 .1 .1 .1 .1 .1 .1 .1 .1 .0) t))
-
-  -- rule 11: the fields of each known item are in range
-  pub fields-good : All (λ p. listed k (Tag (byte s p)) ≡ true → badField s (shapeOf (byte s p)) (dataAt s p) ≡ Nothing) (items s)
-  unfolding rule11
-  fields-good = known-clear k s (badField s) (accepted-clear .1 .1 .1 .1 .1 .1 .1 .1 .1 .1 .0)
