@@ -1,10 +1,8 @@
--- Two chains beside each other: two `next` that agree on the places visited, two rules that agree there, and one chain up to an earlier end.
--- Assumes nothing.
+-- Two chains beside each other: two `next` that agree on the places visited, and two rules that agree there. Assumes nothing.
 use Prim.Native.Nat.{ℕ, _≤_, _<_}
-use mathlib.Core.List.{List, _∷_, _++_}
+use mathlib.Core.List.{List, _∷_}
 use mathlib.Core.Logic.{_⊎_, inl, inr}
 use mathlib.Core.Path.{_≡_, sym, ap, _∙_}
-use native.Mathlib.Omega.{arith}
 use Rattle.chain.specs.All.{All}
 use Rattle.chain.specs.Chain.{chain}
 use Rattle.chain.specs.First.{search}
@@ -45,23 +43,3 @@ chain-close next other end grows rises =
 pub search-agree : (f g : ℕ → Found) (next : ℕ → ℕ) (end : ℕ) → ((p : ℕ) → p < next p) → (p : ℕ) → ((q : ℕ) → p ≤ q → q < end → f q ≡ g q) → search f next end p ≡ search g next end p
 search-agree f g next end grows p agree =
     first-agree f g (chain next end p) (chain-all next end grows (λ q. f q ≡ g q) p agree)
-
--- the chain up to an earlier end, and what follows: a chain again, from a place at or past the start and the earlier end
-pub record Prefix (next : ℕ → ℕ) (early end p : ℕ) : Type 0 where
-  pub place : ℕ
-  pub from : p ≤ place
-  pub past : early ≤ place
-  pub split : chain next end p ≡ chain next early p ++ chain next end place
-
-pub chain-prefix : (next : ℕ → ℕ) (early end : ℕ) → ((p : ℕ) → p < next p) → early ≤ end → (p : ℕ) → Prefix next early end p
-chain-prefix next early end grows le =
-    chain-ind next early grows (Prefix next early end)
-    (λ p h. record { place = p; from = omega arith; past = h; split = rw (chain-end next early grows p h) })
-    (λ p h ih. record {
-      place = ih .place;
-      from = omega (arith, ih .from, grows p);
-      past = ih .past;
-      split =
-          chain-more next end grows p (omega arith) ∙ ap (λ (l : List ℕ). p ∷ l) (ih .split)
-          ∙ ap (λ (l : List ℕ). l ++ chain next end (ih .place)) (sym (chain-more next early grows p h));
-    })

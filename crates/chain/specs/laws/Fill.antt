@@ -52,10 +52,6 @@ module _ {A : Type 0} where
       rw add-suc
       (ap (λ (l : List A). l ++ (f (m + n) ∷ [])) (tab-append f m n) ∙ append-assoc (tab f m) (tab (λ i. f (m + i)) n) (f (m + n) ∷ []))
 
-  pub filled-agree : (f g : ℕ → A) (n : ℕ) (b : List A) → ((i : ℕ) → i < n → f i ≡ g i) → filled f n b ≡ filled g n b
-  unfolding filled
-  filled-agree f g n b h = ap (λ (l : List A). l ++ drop n b) (tab-agree f g n h)
-
   pub length-filled : (f : ℕ → A) (n : ℕ) (b : List A) → n ≤ length b → length (filled f n b) ≡ length b
   unfolding filled
   length-filled f n b h = simp (length-append, length-tab, length-drop) (omega arith)

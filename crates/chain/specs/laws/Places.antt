@@ -6,7 +6,7 @@ use native.Mathlib.Omega.{arith}
 use lib.ListN.{length, getD}
 use Rattle.chain.specs.All.{All}
 use Rattle.chain.specs.Chain.{chain}
-use Rattle.chain.specs.laws.All.{all-map, all-getD}
+use Rattle.chain.specs.laws.All.{all-map}
 use Rattle.chain.specs.laws.Below.{below}
 use Rattle.chain.specs.laws.Chain.{chain-end, chain-more, chain-ind}
 
@@ -73,9 +73,6 @@ module _ (next : ℕ → ℕ) (end : ℕ) (grows : (p : ℕ) → p < next p) whe
         (omega arith, h),
         all-map (λ q. (next p ≤ q) × (q < end)) (λ q. (p ≤ q) × (q < end)) (λ q w. (omega (arith, grows p), w .1)) (chain next end (next p)) ih,
       ))
-
-  pub place-within : (p n : ℕ) → n < length (chain next end p) → (p ≤ getD (chain next end p) n 0) × (getD (chain next end p) n 0 < end)
-  place-within p n h = all-getD (λ q. (p ≤ q) × (q < end)) (chain next end p) n 0 (chain-within p) h
 
   -- what holds of every number from the start to the end holds of each place
   pub chain-all : (P : ℕ → Type 0) (p : ℕ) → ((q : ℕ) → p ≤ q → q < end → P q) → All P (chain next end p)

@@ -142,7 +142,3 @@ module _ (s : List ℕ) (octets : Octets s) (p : ℕ) where
   pub le32-below : le32 s p < 2 ^ 32
   unfolding le32
   le32-below = run-below 4
-
-  pub le64-below : le64 s p < 2 ^ 64
-  unfolding le64
-  le64-below = run-below 8

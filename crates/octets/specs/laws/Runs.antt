@@ -16,13 +16,8 @@ use Rattle.chain.specs.laws.Finds.{finds-as, finds-range}
 use Rattle.chain.specs.laws.Means.{means-other}
 use Rattle.chain.specs.laws.Ranges.{Least, range-least, range-none, none-range}
 use Rattle.octets.specs.Bytes.{byte, run, le64}
-use Rattle.octets.specs.Runs.{sixteen, sixteenAt, sixteenBytes, apart, difference, isNothing, sameRun, isSet, nonzero}
-use Rattle.octets.specs.declared.Sixteen.{Sixteen}
+use Rattle.octets.specs.Runs.{sixteenAt, sixteenBytes, apart, difference, isNothing, sameRun, isSet, nonzero}
 use Rattle.octets.specs.laws.Bytes.{byte-run, le64-zero}
-
--- sixteen bytes as a list, and back
-pub sixteen-bytes : (x : Sixteen) → sixteen (sixteenBytes x) ≡ x
-sixteen-bytes x = refl
 
 -- the list of the sixteen bytes at a place
 pub bytes-sixteen : (s : List ℕ) (p : ℕ) → sixteenBytes (sixteenAt s p) ≡ run s p 16
@@ -34,10 +29,6 @@ is-nothing (At i) e = cc
 is-nothing Nothing e = refl
 
 module _ (a : List ℕ) (p : ℕ) (b : List ℕ) (q n : ℕ) where
-  pub difference-least : (i : ℕ) → difference a p b q n ≡ At i → Least (apart a p b q) (λ j. j) 0 n i
-  unfolding difference
-  difference-least i e = range-least (apart a p b q) (λ j. j) n 0 i e
-
   -- two runs are the same exactly where no offset differs
   pub same-is-equal : sameRun a p b q n ≡ true → run a p n ≡ run b q n
   unfolding sameRun difference
@@ -57,7 +48,7 @@ module _ (s : List ℕ) (p from to : ℕ) where
   unfolding nonzero
   nonzero-least q e = range-least (isSet s p) (λ i. p + i) to from q e
 
-  -- it is the first from p + from up to p + to
+  -- it finds the first byte that is not zero, of those from p + from up to p + to
   pub finds-nonzero : Finds (λ z. (p + from ≤ z) × (z < p + to) × (byte s z ≡ 0 → ⊥)) (nonzero s p from to)
   unfolding nonzero
   finds-nonzero =
