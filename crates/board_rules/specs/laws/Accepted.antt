@@ -12,16 +12,16 @@ use Rattle.board_layout.specs.Places.{Crc32, CrcLength, MapData, mapRecordSize}
 use Rattle.board_layout.specs.declared.Records.the-variants.{Map}
 use Rattle.board_rules.specs.Judged.{rules, judged}
 use Rattle.board_rules.specs.Rules.{headerLength, rule20, rule21, rule22, rule23, rule25, rule26, covered, checkOver, rule27, rule28}
-use Rattle.chain.specs.laws.Checks.{checks-none, kept-equal, kept-under}
 use Rattle.board_rules.specs.laws.Heads as heads
 use Rattle.board_rules.specs.laws.Order as order
-use Rattle.board_rules.specs.laws.Walk as walk
 use Rattle.board_rules.specs.laws.Walk.{Fits}
+use Rattle.board_rules.specs.laws.Walk as walk
 use Rattle.chain.specs.All.{All}
 use Rattle.chain.specs.Chain.{chain}
 use Rattle.chain.specs.First.{when}
 use Rattle.chain.specs.Nth.{nth}
 use Rattle.chain.specs.declared.Found.the-variants.{At, Nothing}
+use Rattle.chain.specs.laws.Checks.{checks-none, kept-equal, kept-under}
 use Rattle.kinds.specs.Signatures.{eeprom, eeprMap, brdInfo}
 use Rattle.kinds.specs.declared.Kinds.{Kinds}
 use Rattle.octets.specs.Bytes.{le32}

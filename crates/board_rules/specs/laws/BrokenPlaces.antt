@@ -12,7 +12,7 @@ use Rattle.board_layout.specs.Layout.{signatureAt, structLen, next, structures,
 use Rattle.board_layout.specs.Places.{EepromSig}
 use Rattle.board_layout.specs.laws.Layout.{next-grows, end-next, structure-below}
 use Rattle.board_rules.specs.Broken.{StructureAt, Second, Third, PromSigAt, Expected}
-use Rattle.board_rules.specs.Rules.{rule21, rule25, isPromSig, promSigAt, onFound, coveredUpTo, covered}
+use Rattle.board_rules.specs.Rules.{rule21, rule25, promSigAt, onFound, coveredUpTo, covered}
 use Rattle.board_rules.specs.laws.Heads.{Last, prom-sig-last}
 use Rattle.board_rules.specs.laws.Order.{map-second, board-third}
 use Rattle.chain.specs.Chain.{chain}
@@ -24,7 +24,7 @@ use Rattle.chain.specs.declared.Found.the-variants.{At, Nothing}
 use Rattle.chain.specs.laws.Among.{nth-start, nth-next}
 use Rattle.chain.specs.laws.Apart.{among-behind}
 use Rattle.chain.specs.laws.Below.{below}
-use Rattle.chain.specs.laws.Finds.{finds-as, found-is, found-none, finds-one, finds-when, finds-along}
+use Rattle.chain.specs.laws.Finds.{found-is, found-none, finds-one, finds-starts}
 use Rattle.chain.specs.laws.First.{when-place, when-test}
 use Rattle.chain.specs.laws.Nth.{nth-all}
 use Rattle.kinds.specs.Signatures.{promSig}
@@ -87,28 +87,8 @@ module _ (k : Kinds) (s : List ℕ) where
   prom-sig-finds : Finds (PromSigAt k s) (promSigAt s)
   unfolding promSigAt
   prom-sig-finds =
-      finds-as Somewhere (PromSigAt k s) to back (promSigAt s)
-      (finds-along (isPromSig s) (next s) (structLen s) (next-grows s) Here own 0 each)
-    where
-      Here : ℕ → ℕ → Type 0
-      Here p z = (z ≡ p) × (signatureAt s p ≡ promSig)
-
-      own : (p z : ℕ) → Here p z → (p ≤ z) × (z ≤ next s p)
-      own p z h = (omega (arith, h .0), omega (arith, h .0, next-grows s p))
-
-      each : (p : ℕ) → StructureAt k s p → Finds (Here p) (isPromSig s p)
-      each p a =
-          finds-when (Here p) (eqb (signatureAt s p) promSig) p (λ t. (refl, eqb-true (signatureAt s p) promSig t))
-          (λ z h. (h .0, eq-eqb (signatureAt s p) promSig (h .1)))
-
-      Somewhere : ℕ → Type 0
-      Somewhere z = (p : ℕ) × (StructureAt k s p × Here p z)
-
-      to : (z : ℕ) → Somewhere z → PromSigAt k s z
-      to z (p, (a, (i, g))) = subst (PromSigAt k s) (sym i) (a, g)
-
-      back : (z : ℕ) → PromSigAt k s z → Somewhere z
-      back z h = (z, (h .0, (refl, h .1)))
+      finds-starts (λ p. eqb (signatureAt s p) promSig) (next s) (structLen s) (next-grows s) (PromSigAt k s) 0
+      (λ z a t. (a, eqb-true (signatureAt s z) promSig t)) (λ z h. (h .0, eq-eqb (signatureAt s z) promSig (h .1)))
 
   -- rules 21 and 25 find nothing: a `$PromSig` is the last structure, so there is but one
   prom-sig-ends : rule21 s ≡ Nothing → rule25 s ≡ Nothing → (p q : ℕ) → PromSigAt k s p → StructureAt k s q → q ≤ p

@@ -19,12 +19,12 @@ use Rattle.board_records.specs.Records.{mapNumber, badMapRecord}
 use Rattle.board_rules.specs.Judged.{judged}
 use Rattle.board_rules.specs.Rules.{rule30, onKnown, rule32, rule33}
 use Rattle.board_rules.specs.laws.Accepted.{accepted-clear, record-place}
-use Rattle.chain.specs.laws.Checks.{checks-none, kept-equal, kept-under, under-mark}
 use Rattle.chain.specs.All.{All}
 use Rattle.chain.specs.First.{first, when}
 use Rattle.chain.specs.declared.Found.{Found}
 use Rattle.chain.specs.declared.Found.the-variants.{Nothing}
 use Rattle.chain.specs.laws.All.{all-map}
+use Rattle.chain.specs.laws.Checks.{checks-none, kept-equal, kept-under, under-mark}
 use Rattle.chain.specs.laws.First.{first-all, orElse-left, orElse-right, when-nothing}
 use Rattle.chain.specs.laws.Nth.{nth-all}
 use Rattle.kinds.specs.declared.Kinds.{Kinds}

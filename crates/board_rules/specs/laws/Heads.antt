@@ -12,10 +12,9 @@ use Rattle.board_fields.specs.Heads.{mapLengthFits, badMapHead, badBoardHead, b
 use Rattle.board_layout.specs.Layout.{signatureAt, majorAt, lengthAt, structLen, endAt, round16, next, structures, mapAt, boardAt, laterAt, records, mapCount}
 use Rattle.board_layout.specs.Places.{StructLen, MapData, mapRecordSize, EepromSig}
 use Rattle.board_layout.specs.declared.Records.the-variants.{Map}
-use Rattle.board_layout.specs.laws.Records as layout
 use Rattle.board_layout.specs.laws.Layout.{next-grows, next-round, next-whole, round-same}
+use Rattle.board_layout.specs.laws.Records as layout
 use Rattle.board_rules.specs.Rules.{headerLength, rule21, rule22, rule23, expected, isEarly, outOfOrder, rule25, promSigAt, onFound, rule26, coveredUpTo, covered}
-use Rattle.chain.specs.laws.Checks.{checks-none, kept-true, kept-equal, kept-under}
 use Rattle.board_rules.specs.laws.Order.{map-second, board-third}
 use Rattle.board_rules.specs.laws.Walk.{prom-sig-fits, structures-are}
 use Rattle.chain.specs.All.{All}
@@ -25,6 +24,7 @@ use Rattle.chain.specs.Nth.{nth}
 use Rattle.chain.specs.declared.Found.{Found}
 use Rattle.chain.specs.declared.Found.the-variants.{At, Nothing}
 use Rattle.chain.specs.laws.All.{all-both}
+use Rattle.chain.specs.laws.Checks.{checks-none, kept-true, kept-equal, kept-under}
 use Rattle.chain.specs.laws.First.{first-all, when-nothing}
 use Rattle.chain.specs.laws.Places.{chain-within}
 use Rattle.chain.specs.laws.Steps.{steps-count, steps-nth}

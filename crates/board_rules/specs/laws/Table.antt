@@ -18,8 +18,8 @@ use Rattle.kinds.specs.declared.Kinds.{Kinds}
 use Rattle.verdict.specs.Table.{Unbroken, FirstBroken}
 use Rattle.verdict.specs.Verdict.{refusal}
 use Rattle.verdict.specs.declared.Judged.the-variants.{Accepted}
-use Rattle.verdict.specs.laws.Table as verdict
 use Rattle.verdict.specs.laws.Table.{Searched, row}
+use Rattle.verdict.specs.laws.Table as verdict
 
 module _ (k : Kinds) (s : List ℕ) where
   -- the searches, row by row

@@ -12,7 +12,6 @@ use Rattle.board_layout.specs.Layout.{signatureAt, lengthAt, structLen, endAt, 
 use Rattle.board_layout.specs.Places.{headSize}
 use Rattle.board_layout.specs.laws.Layout.{next-grows}
 use Rattle.board_rules.specs.Rules.{overdue, misplaced, rule23, gapUsed, rule24, rule25, isPromSig, promSigAt}
-use Rattle.chain.specs.laws.Checks.{checks-none, none-checks, kept-equal, kept-under}
 use Rattle.board_rules.specs.laws.Order.{map-second, board-third}
 use Rattle.chain.specs.All.{All}
 use Rattle.chain.specs.Chain.{chain}
@@ -21,6 +20,7 @@ use Rattle.chain.specs.declared.Found.{Found}
 use Rattle.chain.specs.declared.Found.the-variants.{At, Nothing}
 use Rattle.chain.specs.laws.All.{all-map}
 use Rattle.chain.specs.laws.Chain.{chain-more}
+use Rattle.chain.specs.laws.Checks.{checks-none, none-checks, kept-equal, kept-under}
 use Rattle.chain.specs.laws.First.{Hit, first-all, first-hit, hit-holds, when-place, when-nothing}
 use Rattle.kinds.specs.Signatures.{promSig}
 use Rattle.octets.specs.Bytes.{byte}

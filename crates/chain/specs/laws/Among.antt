@@ -44,5 +44,6 @@ module _ (next : ℕ → ℕ) (end : ℕ) (grows : (p : ℕ) → p < next p) whe
       ∙ ap (λ (b : Bool). when b (next q)) (lt-ltb (next q) end h)
   nth-goes (suc n) p q e h = nth-next p (suc n) ∙ nth-goes n (next p) q (sym (nth-next p n) ∙ e) h
 
+  -- so the next after an item is an item
   pub among-goes : (p q : ℕ) → Among (chain next end p) q → next q < end → Among (chain next end p) (next q)
   among-goes p q a h = (suc (a .0), nth-goes (a .0) p q (a .1) h)

@@ -16,8 +16,8 @@ use Rattle.chain.specs.laws.Below.{below}
 use Rattle.chain.specs.laws.Chain.{chain-more, chain-end, chain-ind}
 use Rattle.chain.specs.laws.First.{at-nothing}
 use Rattle.chain.specs.laws.Loops.{search-end, search-more}
-use Rattle.chain.specs.laws.Places.{chain-within}
 use Rattle.chain.specs.laws.Nth.{nth-all}
+use Rattle.chain.specs.laws.Places.{chain-within}
 use Rattle.chain.specs.laws.Ranges.{Least, range-least, range-none}
 
 -- ---- the same places, said in two ways
@@ -128,3 +128,16 @@ module _ (rule : ℕ → Found) (next : ℕ → ℕ) (end : ℕ) (grows : (p : �
                 own (x .0) z (x .1 .1) .0,
                 nth-all (λ q. (next from ≤ q) × (q < end)) (chain next end (next from)) (x .1 .0 .0) (x .0) (chain-within next end grows (next from)) (x .1 .0 .1) .0,
               )
+
+-- ---- a test of each item of a chain, whose place is the item's start
+pub finds-starts : (test : ℕ → Bool) (next : ℕ → ℕ) (end : ℕ) → ((p : ℕ) → p < next p) → (B : ℕ → Type 0) (from : ℕ)
+    → ((z : ℕ) → Among (chain next end from) z → test z ≡ true → B z) → ((z : ℕ) → B z → Among (chain next end from) z × (test z ≡ true))
+    → Finds B (search (λ p. when (test p) p) next end from)
+finds-starts test next end grows B from to back =
+    finds-as (λ z. (p : ℕ) × (Among (chain next end from) p × Here p z)) B (λ z h. subst B (sym (h .1 .1 .0)) (to (h .0) (h .1 .0) (h .1 .1 .1)))
+    (λ z b. let h = back z b in (z, (h .0, (refl, h .1)))) (search (λ p. when (test p) p) next end from)
+    (finds-along (λ p. when (test p) p) next end grows Here (λ p z h. (omega (arith, h .0), omega (arith, h .0, grows p))) from
+    (λ p a. finds-when (Here p) (test p) p (λ e. (refl, e)) (λ z h. h)))
+  where
+    Here : ℕ → ℕ → Type 0
+    Here p z = (z ≡ p) × (test p ≡ true)

@@ -1,6 +1,6 @@
 -- What acceptance gives: no rule of the table is broken, and what the rules say in numbers. A rule along the items gives a fact of each item. Assumes nothing.
 use Prim.Native.Nat.{ℕ, _+_, _≤_, _<_}
-use mathlib.Core.Bool.{true, false, not, _&&_, _||_, and-eq-true-iff}
+use mathlib.Core.Bool.{true, not, _&&_, _||_, and-eq-true-iff}
 use mathlib.Core.List.{List}
 use mathlib.Core.Path.{_≡_, refl}
 use native.Mathlib.Omega.{arith}
@@ -12,6 +12,7 @@ use Rattle.chain.specs.First.{first}
 use Rattle.chain.specs.declared.Found.{Found}
 use Rattle.chain.specs.declared.Found.the-variants.{At, Nothing}
 use Rattle.chain.specs.laws.All.{all-map, all-both}
+use Rattle.chain.specs.laws.Checks.{neither, second-fails, kept-equal, under-mark}
 use Rattle.chain.specs.laws.First.{first-all, when-nothing}
 use Rattle.chain.specs.laws.Ranges.{range-none}
 use Rattle.crc.specs.Crc8.{crc8}
@@ -28,7 +29,6 @@ use Rattle.tiny_layout.specs.laws.Layout.{items-within}
 use Rattle.tiny_layout.specs.laws.Pool.{known-holds}
 use Rattle.tiny_rules.specs.Judged.{rules, judged}
 use Rattle.tiny_rules.specs.Rules.{noCharacter, endUnmarked, rule2, rule3, rule4, rule5, passes, rule6, early, rule8, rule9, onKnown, badIndex, rule10}
-use Rattle.chain.specs.laws.Checks.{neither, second-fails, kept-equal, under-mark}
 use Rattle.verdict.specs.declared.Judged.{Judged}
 use Rattle.verdict.specs.declared.Judged.the-variants.{Accepted}
 use Rattle.verdict.specs.laws.Accepted.{Clear, clear, after}

@@ -15,7 +15,7 @@ use Rattle.chain.specs.declared.Found.the-variants.{At, Nothing}
 use Rattle.chain.specs.laws.Among.{among-goes}
 use Rattle.chain.specs.laws.Apart.{among-behind}
 use Rattle.chain.specs.laws.Below.{below}
-use Rattle.chain.specs.laws.Finds.{finds-as, found-none, finds-when, finds-range, finds-along}
+use Rattle.chain.specs.laws.Finds.{finds-as, found-none, finds-range, finds-along, finds-starts}
 use Rattle.chain.specs.laws.Means.{Means, means-equal, means-under, means-above, means-false, means-both, means-either}
 use Rattle.kinds.specs.declared.Kinds.{Kinds}
 use Rattle.octets.specs.Bytes.{byte}
@@ -39,11 +39,7 @@ finds-items s B own rule each =
 finds-tags :
     (s : List ℕ) (B : ℕ → Type 0) (test : ℕ → Bool) → ((z : ℕ) → Among (items s) z → test z ≡ true → B z)
     → ((z : ℕ) → B z → Among (items s) z × (test z ≡ true)) → Finds B (first (λ p. when (test p) p) (items s))
-finds-tags s B test to back =
-    finds-as (λ z. (p : ℕ) × (Among (items s) p × ((z ≡ p) × (test p ≡ true)))) B (λ z h. subst B (sym (h .1 .1 .0)) (to (h .0) (h .1 .0) (h .1 .1 .1)))
-    (λ z b. let h = back z b in (z, (h .0, (refl, h .1)))) (first (λ p. when (test p) p) (items s))
-    (finds-items s (λ p z. (z ≡ p) × (test p ≡ true)) (λ p z h. (omega (arith, h .0), omega (arith, h .0, next-grows s p))) (λ p. when (test p) p)
-    (λ p. finds-when (λ z. (z ≡ p) × (test p ≡ true)) (test p) p (λ e. (refl, e)) (λ z h. h)))
+finds-tags s B test = finds-starts test (next s) (checkPlace s) (next-grows s) B 3
 
 -- a test of each byte from a up to b
 pub finds-bytes :

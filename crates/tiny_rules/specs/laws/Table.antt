@@ -15,8 +15,8 @@ use Rattle.tiny_rules.specs.laws.BrokenItems.{finds6, finds7, finds8, fi
 use Rattle.verdict.specs.Table.{Unbroken, FirstBroken}
 use Rattle.verdict.specs.Verdict.{refusal}
 use Rattle.verdict.specs.declared.Judged.the-variants.{Accepted}
-use Rattle.verdict.specs.laws.Table as verdict
 use Rattle.verdict.specs.laws.Table.{Searched, row}
+use Rattle.verdict.specs.laws.Table as verdict
 
 module _ (k : Kinds) (s : List ℕ) where
   -- the searches, row by row; rule 9 is asked only where rule 8 is not broken
