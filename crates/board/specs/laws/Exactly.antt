@@ -10,7 +10,6 @@ use native.Mathlib.Omega.{arith}
 use lib.ListN.{length, getD}
 use Rattle.board.specs.Answers.{numbered, itemIf, itemNumbered, mapRecord, mapRecordIf, mapRecordNumbered, isGpio, gpioRecordsAt, gpioRecord, gpioRecordIf, gpioRecordNumbered}
 use Rattle.board.specs.Items.{itemAs, itemAt}
-use Rattle.board.specs.Records.{mapRecordAt, gpioRecordAt}
 use Rattle.board.specs.Shown.{structureShown, recordShown}
 use Rattle.board.specs.Values.{notKnown, itemFields, ItemValues, itemValues, itemSaid, mapRecordSaid, gpioRecordSaid}
 use Rattle.board.specs.declared.Item.{Item}

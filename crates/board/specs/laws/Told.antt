@@ -12,7 +12,6 @@ use Rattle.board_layout.specs.Shapes.{shapeOf, knows, reservedFrom, reservedTo}
 use Rattle.board_layout.specs.Tables.{table, recordTable}
 use Rattle.board_layout.specs.declared.Records.{Records}
 use Rattle.board_layout.specs.declared.Records.the-variants.{Map, Gpio}
-use Rattle.board_layout.specs.declared.Shape.{Shape}
 use Rattle.board_layout.specs.declared.Shape.the-variants.{Eeprom}
 use Rattle.board_layout.specs.laws.Tables.{gapless, hidden}
 use Rattle.board_records.specs.Records.{recordFrom, recordTo}

@@ -1,17 +1,16 @@
 -- In an accepted image the reserved row of a known structure lies within its Length, only the first structure is a `$Eeprom$`, and only the second a `$EeprMap`.
 -- With VerMinor 0 the reserved bytes of a known structure and of its records are zero. Assumes nothing.
 use Prim.Native.Nat.{ℕ, _+_, _-_, _≤_, _<_}
-use mathlib.Core.Bool.{Bool, true, false, cond, _||_, false≢true}
+use mathlib.Core.Bool.{Bool, true, cond}
 use mathlib.Core.List.{List, [], _∷_}
 use mathlib.Core.Path.{_≡_, refl, sym, subst}
 use native.Mathlib.Omega.{arith}
-use lib.Dec.{eqb}
 use borrow.Author.Tests.{le-leb, eq-eqb}
 use Rattle.board_fields.specs.Inside.{badInside}
 use Rattle.board_fields.specs.Reserved.{recordsUsed, reservedUsed}
 use Rattle.board_layout.specs.Layout.{signatureAt, majorAt, minorAt, lengthAt, shapeAt, structLen, endAt, next, structures, mapAt, boardAt, laterAt, dataOffset, recordSize, records}
 use Rattle.board_layout.specs.Places.{MapData, mapRecordSize}
-use Rattle.board_layout.specs.Shapes.{listedShape, shapeOf, knows, fixedPart, reservedFrom, reservedTo, HasRecords}
+use Rattle.board_layout.specs.Shapes.{shapeOf, knows, fixedPart, reservedFrom, reservedTo, HasRecords}
 use Rattle.board_layout.specs.declared.Records.{Records}
 use Rattle.board_layout.specs.declared.Records.the-variants.{Map, Gpio}
 use Rattle.board_layout.specs.declared.Shape.{Shape}
@@ -21,7 +20,7 @@ use Rattle.board_rules.specs.Judged.{judged}
 use Rattle.board_rules.specs.Rules.{expected, isEarly, outOfOrder, rule25}
 use Rattle.board_rules.specs.laws.Accepted.{accepted-clear, header-is, structures-are, map-second, board-third, map-head, records-fit, board-head}
 use Rattle.board_rules.specs.laws.Fields.{inside-good, reserved-zero}
-use Rattle.board_rules.specs.laws.Tables.{either, inside-kept, Whole, gpio-whole}
+use Rattle.board_rules.specs.laws.Tables.{later-rows, inside-kept, Whole, gpio-whole}
 use Rattle.chain.specs.All.{All}
 use Rattle.chain.specs.Chain.{chain}
 use Rattle.chain.specs.First.{first, orElse, when}
@@ -32,42 +31,12 @@ use Rattle.chain.specs.laws.All.{all-both}
 use Rattle.chain.specs.laws.Checks.{checks-none}
 use Rattle.chain.specs.laws.First.{first-all, when-nothing, orElse-left, orElse-right}
 use Rattle.chain.specs.laws.Nth.{nth-all}
-use Rattle.kinds.specs.Signatures.{eeprom, eeprMap, brdInfo, promSig, acpiTbl, fpgaNfo, gpioDat, hdCodec, logo, memCnfg, macInfo, uCode, video}
+use Rattle.kinds.specs.Signatures.{eeprMap, brdInfo}
 use Rattle.kinds.specs.declared.Kinds.{Kinds}
 use Rattle.octets.specs.Bytes.{byte}
 use Rattle.octets.specs.Runs.{nonzero}
 use Rattle.octets.specs.laws.Runs.{nonzero-none}
 use Rattle.verdict.specs.declared.Judged.the-variants.{Accepted}
-
--- ---- where reserved rows end
--- of a structure that is none of the three first ones, by its fixed part. (Of those three, later: so a table that has this is none of theirs.)
-later-rows : (g major : ℕ) → isEarly g ≡ false → reservedTo (shapeOf g major) ≤ fixedPart (shapeOf g major)
-unfolding shapeOf listedShape
-later-rows g major a =
-    either P (eqb g eeprom) (λ e. absurd (none (eqb g eeprMap) (eqb g brdInfo) (eqb g eeprom) a .2 e))
-    (either P (eqb g eeprMap) (λ e. absurd (none (eqb g eeprMap) (eqb g brdInfo) (eqb g eeprom) a .0 e))
-    (either P (eqb g brdInfo) (λ e. absurd (none (eqb g eeprMap) (eqb g brdInfo) (eqb g eeprom) a .1 e))
-    (either P (eqb g promSig) (λ _. omega arith)
-    (either P (eqb major 1) (λ _.
-    either P (eqb g acpiTbl) (λ _. omega arith)
-    (either P (eqb g fpgaNfo) (λ _. omega arith)
-    (either P (eqb g gpioDat) (λ _. omega arith)
-    (either P (eqb g hdCodec) (λ _. omega arith)
-    (either P (eqb g logo) (λ _. omega arith)
-    (either P (eqb g memCnfg) (λ _. omega arith)
-    (either P (eqb g macInfo) (λ _. omega arith)
-    (either P (eqb g uCode) (λ _. omega arith)
-    (either P (eqb g video) (λ _. omega arith) (omega arith))))))))))
-    (omega arith)))))
-  where
-    P : Shape → Type 0
-    P x = reservedTo x ≤ fixedPart x
-
-    none : (a b c : Bool) → a || b || c ≡ false → (a ≡ true → ⊥) × (b ≡ true → ⊥) × (c ≡ true → ⊥)
-    none false false false e = (λ h. false≢true h, λ h. false≢true h, λ h. false≢true h)
-    none false false true e = absurd (false≢true (sym e))
-    none false true c e = absurd (false≢true (sym e))
-    none true b c e = absurd (false≢true (sym e))
 
 -- ---- the structures of an accepted image
 pub record Placed (k : Kinds) (s : List ℕ) (p : ℕ) : Type 0 where

@@ -3,17 +3,18 @@
 use Prim.Native.Nat.{ℕ, _+_, _-_, _%_, _≤_}
 use mathlib.Core.Bool.{Bool, true, false, not, cond, _||_, false≢true}
 use mathlib.Core.List.{List, [], _∷_}
-use mathlib.Core.Path.{_≡_, refl, sym, subst, _∙_}
+use mathlib.Core.Path.{_≡_, refl, sym, subst}
 use native.Mathlib.Omega.{arith}
 use lib.Dec.{eqb, ltb}
 use borrow.Author.Tests.{ltb-false}
 use Rattle.board_fields.specs.Inside.{badGpio, badFields, badInside}
 use Rattle.board_layout.specs.Layout.{signatureAt, majorAt, lengthAt, shapeAt, structLen, endAt, next, structures, mapAt, boardAt, laterAt, records, recordSize, dataOffset}
 use Rattle.board_layout.specs.Places.{GpioData, gpioRecordSize}
-use Rattle.board_layout.specs.Shapes.{listedShape, shapeOf, knows, fixedPart, reservedFrom}
+use Rattle.board_layout.specs.Shapes.{reservedTo, listedShape, shapeOf, knows, fixedPart, reservedFrom}
 use Rattle.board_layout.specs.declared.Records.the-variants.{Gpio}
 use Rattle.board_layout.specs.declared.Shape.{Shape}
 use Rattle.board_layout.specs.declared.Shape.the-variants.{GpioDat}
+use Rattle.board_layout.specs.laws.Tables.{reserved-row}
 use Rattle.board_layout.specs.laws.Records.{records-fit}
 use Rattle.board_rules.specs.Judged.{judged}
 use Rattle.board_rules.specs.Rules.{expected, isEarly, outOfOrder, rule25}
@@ -30,19 +31,19 @@ use Rattle.kinds.specs.Signatures.{eeprom, eeprMap, brdInfo, promSig, acpiTbl, 
 use Rattle.kinds.specs.declared.Kinds.{Kinds}
 use Rattle.verdict.specs.declared.Judged.the-variants.{Accepted}
 
--- ---- the tables: where the fields end
+-- ---- the tables: where their rows Reserved end
 -- what holds of both answers of a test, of the first where the test holds
-pub either : (P : Shape → Type 0) (b : Bool) {x y : Shape} → (b ≡ true → P x) → P y → P (cond b x y)
+either : (P : Shape → Type 0) (b : Bool) {x y : Shape} → (b ≡ true → P x) → P y → P (cond b x y)
 either P true h k = h refl
 either P false h k = k
 
--- of a structure that is neither map nor board they end by its fixed part
-later-fields : (g major : ℕ) → eqb g eeprMap ≡ false → eqb g brdInfo ≡ false → reservedFrom (shapeOf g major) ≤ fixedPart (shapeOf g major)
+-- of a structure that is none of the three first ones, by its fixed part. (Of those three, later: so a table that has this is none of theirs.)
+pub later-rows : (g major : ℕ) → isEarly g ≡ false → reservedTo (shapeOf g major) ≤ fixedPart (shapeOf g major)
 unfolding shapeOf listedShape
-later-fields g major a b =
-    either P (eqb g eeprom) (λ _. omega arith)
-    (either P (eqb g eeprMap) (λ e. absurd (false≢true (sym a ∙ e)))
-    (either P (eqb g brdInfo) (λ e. absurd (false≢true (sym b ∙ e)))
+later-rows g major a =
+    either P (eqb g eeprom) (λ e. absurd (none (eqb g eeprMap) (eqb g brdInfo) (eqb g eeprom) a .2 e))
+    (either P (eqb g eeprMap) (λ e. absurd (none (eqb g eeprMap) (eqb g brdInfo) (eqb g eeprom) a .0 e))
+    (either P (eqb g brdInfo) (λ e. absurd (none (eqb g eeprMap) (eqb g brdInfo) (eqb g eeprom) a .1 e))
     (either P (eqb g promSig) (λ _. omega arith)
     (either P (eqb major 1) (λ _.
     either P (eqb g acpiTbl) (λ _. omega arith)
@@ -57,13 +58,13 @@ later-fields g major a b =
     (omega arith)))))
   where
     P : Shape → Type 0
-    P x = reservedFrom x ≤ fixedPart x
+    P x = reservedTo x ≤ fixedPart x
 
--- a signature that is none of the three first ones
-not-early : (a b c : Bool) → a || b || c ≡ false → (a ≡ false) × (b ≡ false)
-not-early false false c e = (refl, refl)
-not-early false true c e = absurd (false≢true (sym e))
-not-early true b c e = absurd (false≢true (sym e))
+    none : (a b c : Bool) → a || b || c ≡ false → (a ≡ true → ⊥) × (b ≡ true → ⊥) × (c ≡ true → ⊥)
+    none false false false e = (λ h. false≢true h, λ h. false≢true h, λ h. false≢true h)
+    none false false true e = absurd (false≢true (sym e))
+    none false true c e = absurd (false≢true (sym e))
+    none true b c e = absurd (false≢true (sym e))
 
 -- ---- rule 33 at a structure
 -- it is not broken: the fixed part is there, and the fields are good
@@ -110,8 +111,8 @@ module _ (k : Kinds) (s : List ℕ) (n : ℕ) (e : judged k s ≡ Accepted n) wh
   unfolding outOfOrder shapeAt
   later-holds p o i h =
       let g : ℕ = signatureAt s p in
-      let d = not-early (eqb g eeprMap) (eqb g brdInfo) (eqb g eeprom) (when-nothing (isEarly g) p (orElse-left (when (isEarly g) p) _ o)) in
-      omega (arith, later-fields g (majorAt s p) (d .0) (d .1), inside-kept s p (shapeOf g (majorAt s p)) (i h) .0)
+      let w = later-rows g (majorAt s p) (when-nothing (isEarly g) p (orElse-left (when (isEarly g) p) _ o)) in
+      omega (arith, w, reserved-row (shapeOf g (majorAt s p)) .1, inside-kept s p (shapeOf g (majorAt s p)) (i h) .0)
 
   -- so each does
   pub fields-hold : All (Holds k s) (structures s)
