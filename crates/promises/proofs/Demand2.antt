@@ -13,7 +13,7 @@ use Rattle.chain.specs.declared.Found.the-variants.{At}
 use Rattle.kinds.specs.Kinds.{full}
 use Rattle.kinds.specs.declared.Kinds.{Kinds}
 use Rattle.promises.proofs.Exactly.{texts-shown}
-use Rattle.promises.proofs.Fields.{fields-shown, pool-count, strings-shown, no-name, records-shown}
+use Rattle.promises.proofs.Fields.{fields-shown, major-shown, pool-count, strings-shown, no-name, records-shown}
 use Rattle.promises.proofs.ReadBack.{written-tiny, written-board}
 use Rattle.promises.proofs.Verdicts.{accepted-by, says-count}
 use Rattle.promises.specs.Answers.{answers}
@@ -56,6 +56,7 @@ demand2 =
       item = λ f k s n e. item-shown f k s n (accepted-by f k s n e);
       reference = λ k s n e on. texts-shown k s n (accepted-by Tiny k s n e) on;
       fields = λ f k s n e. fields-shown f k s n (accepted-by f k s n e);
+      major = λ k s n e. major-shown k s n (accepted-by Tiny k s n e);
       count = λ k s n e on. pool-count k s n (accepted-by Tiny k s n e) on;
       strings = λ k s n e on. strings-shown k s n (accepted-by Tiny k s n e) on;
       noName = λ k s n e. no-name k s n (accepted-by Tiny k s n e);

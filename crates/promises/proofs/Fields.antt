@@ -1,9 +1,9 @@
 -- What is shown is what the papers' tables define: the fields of an item under their labels, the pool's string count, strings and the name, and records by number,
 -- each from the laws of its crate. Assumes nothing.
-use Prim.Native.Nat.{ℕ}
+use Prim.Native.Nat.{ℕ, _+_}
 use mathlib.Core.Bool.{Bool, true, false, cond, _&&_}
 use mathlib.Core.List.{List, []}
-use mathlib.Core.Logic.{_⊎_, _↔_}
+use mathlib.Core.Logic.{_⊎_, inl, inr, _↔_}
 use mathlib.Core.Path.{_≡_, refl, sym, ap, ap₂, _∙_}
 use native.Mathlib.Omega.{arith}
 use lib.ListN.{length}
@@ -17,6 +17,7 @@ use Rattle.board_layout.specs.Shapes.{knows}
 use Rattle.board_layout.specs.declared.Records.the-variants.{Map, Gpio}
 use Rattle.board_layout.specs.declared.Shape.{Shape}
 use Rattle.board_rules.specs.laws.Accepted.{structures-are}
+use Rattle.chain.specs.Finds.{Nowhere}
 use Rattle.chain.specs.Keep.{only}
 use Rattle.chain.specs.Nth.{nth}
 use Rattle.chain.specs.declared.Found.{Found}
@@ -29,7 +30,7 @@ use Rattle.octets.specs.Bytes.{byte}
 use Rattle.promises.proofs.Exactly.{shown-at, item-place}
 use Rattle.promises.proofs.Given.{view}
 use Rattle.promises.specs.Answers.{answers}
-use Rattle.promises.specs.Demand2.{MapRecordAt, GpioRecordAt, Strings, Records}
+use Rattle.promises.specs.Demand2.{EachIdentity, MapRecordAt, GpioRecordAt, Strings, Records}
 use Rattle.promises.specs.Hidden.{hasPool}
 use Rattle.promises.specs.Rows.{labelled, rowsAt, knownRows}
 use Rattle.reader.specs.Formats.{judged}
@@ -39,21 +40,27 @@ use Rattle.reader.specs.declared.Format.{Format}
 use Rattle.reader.specs.declared.Format.the-variants.{Tiny, Board}
 use Rattle.tiny.specs.Answers.{refusedWith, serials, nameOf}
 use Rattle.tiny.specs.Items as tiny
-use Rattle.tiny.specs.Items.{poolShown, fieldsAt}
+use Rattle.tiny.specs.Items.{identityAt, batchedAt, poolShown, fieldsAt}
+use Rattle.tiny.specs.Major.{MajorShown}
 use Rattle.tiny.specs.Shown as tiny-shown
 use Rattle.tiny.specs.Values as tiny-values
 use Rattle.tiny.specs.Values.{FieldValues, fieldValues, nameSaid}
 use Rattle.tiny.specs.declared.Item.{Item}
 use Rattle.tiny.specs.declared.NameAnswer.{NameAnswer}
 use Rattle.tiny.specs.laws.Exactly.{no-name-exactly}
+use Rattle.tiny.specs.laws.Major as tiny-major
 use Rattle.tiny.specs.laws.Resolved.{string-text, string-beyond, name-is-text, name-too-long}
 use Rattle.tiny.specs.laws.Rows as tiny-rows
 use Rattle.tiny.specs.laws.Told.{pool-is}
-use Rattle.tiny_layout.specs.Layout.{dataAt, next}
+use Rattle.tiny_layout.specs.Layout.{dataAt, next, items}
 use Rattle.tiny_layout.specs.Pool.{isKnown, pool}
 use Rattle.tiny_layout.specs.Strings.{texts}
 use Rattle.tiny_layout.specs.Tags.{shapeOf}
 use Rattle.tiny_layout.specs.declared.Pool.{Pool}
+use Rattle.tiny_layout.specs.declared.Shape as tiny-shape
+use Rattle.tiny_rules.specs.Broken.{Broken11, majorOutOfRange}
+use Rattle.tiny_rules.specs.Rules.{isMajor}
+use Rattle.tiny_rules.specs.laws.Table.{accepted-exactly}
 use Rattle.verdict.specs.Said.{Said, says, refused}
 use Rattle.verdict.specs.declared.Judged.{Judged}
 use Rattle.verdict.specs.declared.Judged.the-variants.{Accepted}
@@ -70,7 +77,7 @@ tiny-labelled (tiny-values.batched x b) = refl
 tiny-labelled tiny-values.notKnown = refl
 
 -- at a place
-rows-at : (f : Format) (k : Kinds) (s : List ℕ) (p : ℕ) → labelled (view f k s .item p .fields) ≡ knownRows f k s p
+pub rows-at : (f : Format) (k : Kinds) (s : List ℕ) (p : ℕ) → labelled (view f k s .item p .fields) ≡ knownRows f k s p
 unfolding tiny.itemAt
 rows-at Tiny k s p = go (isKnown k s p) refl
   where
@@ -105,6 +112,37 @@ module _ (k : Kinds) (s : List ℕ) (n : ℕ) (e : judged Tiny k s ≡ Accepted 
       ap (λ (b : ℕ). tinyFields (fieldValues s (cond (listed k (Tag b)) (fieldsAt s (pool k s) (shapeOf b) p) Item.NotKnown))) tag
       ∙ ap (λ (b : Bool). tinyFields (fieldValues s (cond b (fieldsAt s (pool k s) (shapeOf 0x01) p) Item.NotKnown))) on
       ∙ ap₂ (λ (x : Pool) (m : ℕ). reader.tiny-fields (tiny-values.pool (length (texts s x)) (dataAt s p) m)) (sym (pool-is k s n e i p at on tag)) (omega arith))
+
+  -- ---- the major of an identity
+  -- rule 11 keeps it in range
+  major-kept : (i p : ℕ) → nth (items s) i ≡ At p → isKnown k s p ≡ true → (shapeOf (byte s p) ≡ tiny-shape.Shape.Identity) ⊎ (shapeOf (byte s p) ≡ tiny-shape.Shape.Batched)
+      → isMajor (byte s (dataAt s p + 2)) ≡ true
+  major-kept i p at on is = go (isMajor (byte s (dataAt s p + 2))) refl
+    where
+      kept : Nowhere (Broken11 k s)
+      kept = accepted-exactly k s n .0 e .0 .1 .1 .1 .1 .1 .1 .1 .1 .1 .1 .0
+
+      go : (b : Bool) → isMajor (byte s (dataAt s p + 2)) ≡ b → b ≡ true
+      go true d = refl
+      go false d =
+          absurd (kept (dataAt s p + 2) (majorOutOfRange p (elim is [ inl x ↦ inl (((i, at), on), x) | inr x ↦ inr (((i, at), on), x) ]) refl d))
+
+  pub major-shown : (i : ℕ) (x : ItemValues) → answers Tiny k s .item i ≡ says x → EachIdentity (λ v. MajorShown (v .major) (v .letters)) (x .fields)
+  unfolding tiny.itemAt identityAt batchedAt
+  major-shown i =
+      shown-at Tiny k s n e (λ x. EachIdentity (λ v. MajorShown (v .major) (v .letters)) (x .fields)) i
+      (λ p at. go p at (isKnown k s p) refl (shapeOf (byte s p)) refl)
+    where
+      go : (p : ℕ) → nth (items s) i ≡ At p → (b : Bool) → isKnown k s p ≡ b → (a : tiny-shape.Shape) → shapeOf (byte s p) ≡ a
+          → EachIdentity (λ v. MajorShown (v .major) (v .letters)) (tinyFields (fieldValues s (cond b (fieldsAt s (pool k s) a p) Item.NotKnown)))
+      go p at false off a d = tt
+      go p at true on tiny-shape.Shape.Pool d = tt
+      go p at true on tiny-shape.Shape.Serial d = tt
+      go p at true on tiny-shape.Shape.Flags d = tt
+      go p at true on tiny-shape.Shape.Address d = tt
+      go p at true on tiny-shape.Shape.Identity d = tiny-major.major-shown (byte s (dataAt s p + 2)) (major-kept i p at on (inl d))
+      go p at true on tiny-shape.Shape.Batched d = tiny-major.major-shown (byte s (dataAt s p + 2)) (major-kept i p at on (inr d))
+      go p at true on tiny-shape.Shape.Other d = tt
 
   -- ---- strings, and the name
   pub strings-shown : hasPool k ≡ true → Strings k s (answers Tiny k s .further)

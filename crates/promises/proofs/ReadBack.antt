@@ -33,25 +33,25 @@ use Rattle.kinds.specs.laws.Kinds.{full-contains}
 use Rattle.octets.specs.Bytes.{byte}
 use Rattle.octets.specs.Rows as rows
 use Rattle.octets.specs.Rows.{Field, Value, shownRows}
+use Rattle.promises.proofs.Fields.{rows-at}
 use Rattle.promises.proofs.Given.{view, item-given}
 use Rattle.promises.proofs.View.{itemFrom}
 use Rattle.promises.specs.Answers.{answers}
 use Rattle.promises.specs.Hidden.{hasPool, hasSerial}
-use Rattle.promises.specs.ReadBack.{givenCount, givenItem, givenTexts, textsFor, givenString, rowsGiven, fieldList, ShowsItem, ShowsPool, OnlySerial, givenName, TinyShows, BoardShows}
+use Rattle.promises.specs.ReadBack.{givenCount, givenItem, givenTexts, textsFor, givenString, rowsGiven, ShowsItem, ShowsPool, OnlySerial, givenName, TinyShows, BoardShows}
 use Rattle.reader.specs.Values.{tinyFields, tiny-fields, notKnown, itemValues, itemSaid}
 use Rattle.reader.specs.declared.Format.the-variants.{Tiny, Board}
 use Rattle.reader.specs.declared.Item as board-over
 use Rattle.reader.specs.laws.Items.{fromBoard, board-numbered}
 use Rattle.tiny.specs.Answers.{isSerial, serials, stringNumbered}
 use Rattle.tiny.specs.Items.{fieldsAt, itemAt, poolShown}
-use Rattle.tiny.specs.Shown.{stringValue, labelled, itemShown}
+use Rattle.tiny.specs.Shown.{stringValue, itemShown}
 use Rattle.tiny.specs.Texts.{referred}
 use Rattle.tiny.specs.Values as tiny
 use Rattle.tiny.specs.Values.{fieldValues, nameSaid, stringSaid}
 use Rattle.tiny.specs.declared.Item.{Item}
 use Rattle.tiny.specs.declared.NameAnswer.{NameAnswer}
 use Rattle.tiny.specs.laws.Resolved.{string-text, string-beyond, name-is-text}
-use Rattle.tiny.specs.laws.Rows.{known-rows}
 use Rattle.tiny.specs.laws.Told.{pool-is}
 use Rattle.tiny_layout.specs.Layout.{isLong, headSize, dataLength, dataAt, next, items}
 use Rattle.tiny_layout.specs.Pool.{isKnown, pool}
@@ -72,16 +72,6 @@ use Rattle.verdict.specs.Said.{says, refused, writeSaid}
 use Rattle.verdict.specs.declared.Judged.the-variants.{Accepted}
 
 -- ---- tiny images
--- the fields of an item under their labels, over both formats
-labels : (v : tiny.FieldValues) → fieldList (tinyFields v) ≡ labelled v
-labels (tiny.pool n p l) = refl
-labels (tiny.serial r) = refl
-labels (tiny.flags b) = refl
-labels (tiny.address l) = refl
-labels (tiny.identity x) = refl
-labels (tiny.batched x b) = refl
-labels tiny.notKnown = refl
-
 module _ (x : tiny-parts.Parts) (rest : List ℕ) (good : rule46 (x .run) ≡ Nothing) (k : Kinds) (c : ℕ) (e : judged k (image x ++ rest) ≡ Accepted c) where
   -- what the reader is lent
   abbrev s : List ℕ
@@ -119,18 +109,7 @@ module _ (x : tiny-parts.Parts) (rest : List ℕ) (good : rule46 (x .run) ≡ No
       go false = refl
 
   -- ---- items
-  -- what is shown at a place is the rows of its tag, where that is on the list
-  place-rows : (p : ℕ) → labelled (fieldValues s (itemAt k s (pool k s) p .item)) ≡ cond (isKnown k s p) (itemShown k s p) []
-  unfolding itemAt
-  place-rows p = go (isKnown k s p) refl
-    where
-      go : (b : Bool) → isKnown k s p ≡ b
-          → labelled (fieldValues s (cond b (fieldsAt s (pool k s) (shapeOf (byte s p)) p) Item.NotKnown)) ≡ cond b (itemShown k s p) []
-      go true on =
-          sym (ap (λ (b : Bool). labelled (fieldValues s (cond b (fieldsAt s (pool k s) (shapeOf (byte s p)) p) Item.NotKnown))) on) ∙ known-rows k s p on
-      go false off = refl
-
-  -- and at the place of item i of the run these are the rows over the item given
+  -- at the place of item i of the run, the rows of its tag are those over the item given
   given-rows : (i : ℕ) → i < givenCount x → cond (isKnown k s (place i)) (itemShown k s (place i)) [] ≡ rowsGiven k x (givenItem x i)
   given-rows i h =
       let p : ℕ = place i in
@@ -148,7 +127,7 @@ module _ (x : tiny-parts.Parts) (rest : List ℕ) (good : rule46 (x .run) ≡ No
         said = item-given Tiny k s c e i ∙ ap (itemFrom (view Tiny k s)) (run-stands x rest good i h);
         kind = ap Tag (run-lies x rest good i h .tag);
         size = run-lies x rest good i h .length;
-        fields = labels (fieldValues s (itemAt k s (pool k s) (place i) .item)) ∙ place-rows (place i) ∙ given-rows i h;
+        fields = rows-at Tiny k s (place i) ∙ given-rows i h;
       }
 
   -- the pool's fields, where it lies

@@ -24,7 +24,8 @@ use Rattle.octets.specs.Runs.{sixteenAt}
 use Rattle.promises.proofs.Demand2.{demand2}
 use Rattle.promises.specs.Answers.{answers}
 use Rattle.promises.specs.Asked.{without}
-use Rattle.promises.specs.ReadBack.{givenCount, givenItem, rowsGiven, fieldList, OnlySerial, TinyShows, BoardShows}
+use Rattle.promises.specs.Rows.{labelled}
+use Rattle.promises.specs.ReadBack.{givenCount, givenItem, rowsGiven, OnlySerial, TinyShows, BoardShows}
 use Rattle.reader.specs.Answers.{itemNumbered}
 use Rattle.reader.specs.Values.{ItemValues}
 use Rattle.reader.specs.declared.Format.the-variants.{Tiny, Board}
@@ -52,7 +53,7 @@ ident =
 
 -- the fields that are shown of an item
 abbrev shownFields : Said ItemValues → List Field
-shownFields (says v) = fieldList (v .fields)
+shownFields (says v) = labelled (v .fields)
 shownFields (refused n p) = []
 
 -- items 0 to 2 of the image show the rows over the bytes given
@@ -84,11 +85,11 @@ first4 : 0 < givenCount parts4
 unfolding runSize chain visit tab
 first4 = omega arith
 
-serial4 : fieldList (shows4 .item 0 first4 .value .fields) ≡ ("serial", text top1) ∷ []
+serial4 : labelled (shows4 .item 0 first4 .value .fields) ≡ ("serial", text top1) ∷ []
 unfolding runSize chain visit tab listed all split shapeOf
 serial4 = shows4 .item 0 first4 .fields
 
-hidden4 : fieldList (hides4 .item 0 first4 .value .fields) ≡ ("serial", undecodable) ∷ []
+hidden4 : labelled (hides4 .item 0 first4 .value .fields) ≡ ("serial", undecodable) ∷ []
 unfolding runSize chain visit tab listed picked same split shapeOf
 hidden4 = hides4 .item 0 first4 .fields
 

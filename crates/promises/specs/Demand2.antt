@@ -30,10 +30,11 @@ use Rattle.promises.specs.Rows.{labelled, knownRows}
 use Rattle.promises.specs.ReadBack.{TinyShows, BoardShows}
 use Rattle.reader.specs.Formats.{places}
 use Rattle.reader.specs.Items.{poolOf, itemAt}
-use Rattle.reader.specs.Values.{tiny-fields, ItemValues, itemValues}
+use Rattle.reader.specs.Values.{FieldValues, tiny-fields, board-fields, notKnown, ItemValues, itemValues}
 use Rattle.reader.specs.declared.Format.{Format}
 use Rattle.reader.specs.declared.Format.the-variants.{Tiny, Board}
 use Rattle.tiny.specs.Answers.{serials}
+use Rattle.tiny.specs.Major.{MajorShown}
 use Rattle.tiny.specs.Values as tiny
 use Rattle.tiny.specs.Values.{text}
 use Rattle.tiny_layout.specs.Layout.{total, dataAt}
@@ -52,6 +53,18 @@ indexedText k s p j = getD (texts s (pool k s)) (byte s (dataAt s p + j)) []
 
 abbrev pub serialText : Kinds → List ℕ → ℕ → List ℕ
 serialText k s p = getD (texts s (pool k s)) (byte s (dataAt s p)) []
+
+-- what holds of an identity that an item shows
+abbrev pub EachIdentity : (tiny.IdentityValues → Type 0) → FieldValues → Type 0
+EachIdentity P (tiny-fields (tiny.identity x)) = P x
+EachIdentity P (tiny-fields (tiny.batched x b)) = P x
+EachIdentity P (tiny-fields (tiny.pool n p l)) = Unit {0}
+EachIdentity P (tiny-fields (tiny.serial r)) = Unit {0}
+EachIdentity P (tiny-fields (tiny.flags b)) = Unit {0}
+EachIdentity P (tiny-fields (tiny.address l)) = Unit {0}
+EachIdentity P (tiny-fields tiny.notKnown) = Unit {0}
+EachIdentity P (board-fields l) = Unit {0}
+EachIdentity P notKnown = Unit {0}
 
 -- r is the place of record n of the map, the second structure; and of record n of the known GPIO data that are item i
 abbrev pub MapRecordAt : List ℕ → ℕ → ℕ → Type 0
@@ -90,6 +103,9 @@ pub record Demand2 : Type 0 where
   -- a string inside an item is the text of the pool's split whose number its index byte holds
   pub reference : (k : Kinds) (s : List ℕ) (n : ℕ) → answers Tiny k s .judge ≡ says n → hasPool k ≡ true → (i : ℕ) (x : ItemValues) → answers Tiny k s .item i ≡ says x
       → EachString (λ j r. r ≡ text (indexedText k s (x .place) j)) (x .fields)
+  -- "Major 00h to 63h is '00' to '99'; 80h to 99h is '0A' to '0Z'."
+  pub major : (k : Kinds) (s : List ℕ) (n : ℕ) → answers Tiny k s .judge ≡ says n → (i : ℕ) (x : ItemValues) → answers Tiny k s .item i ≡ says x
+      → EachIdentity (λ v. MajorShown (v .major) (v .letters)) (x .fields)
   -- a pool shows the number of its strings ("a made-up string count" is none)
   pub count : (k : Kinds) (s : List ℕ) (n : ℕ) → answers Tiny k s .judge ≡ says n → hasPool k ≡ true → (i : ℕ) (x : ItemValues) → answers Tiny k s .item i ≡ says x
       → x .kind ≡ Tag 0x01 → x .fields ≡ tiny-fields (tiny.pool (length (texts s (pool k s))) (dataAt s (x .place)) (x .length))

@@ -25,9 +25,9 @@ use Rattle.octets.specs.Rows as rows
 use Rattle.octets.specs.Rows.{Field, Value, shownRows}
 use Rattle.promises.specs.Answers.{Answers}
 use Rattle.promises.specs.Hidden.{hasPool, hasSerial}
-use Rattle.reader.specs.Values.{FieldValues, ItemValues, tiny-fields, board-fields, notKnown}
+use Rattle.promises.specs.Rows.{labelled}
+use Rattle.reader.specs.Values.{ItemValues, tiny-fields, board-fields, notKnown}
 use Rattle.reader.specs.declared.Format.the-variants.{Tiny, Board}
-use Rattle.tiny.specs.Shown.{labelled}
 use Rattle.tiny.specs.Values as tiny
 use Rattle.tiny_layout.specs.Strings.{split}
 use Rattle.tiny_layout.specs.Tables.{table}
@@ -62,19 +62,13 @@ givenString k x n = cond (ltb n (length (textsFor k x))) (rows.text (getD (texts
 abbrev pub rowsGiven : Kinds → tiny-parts.Parts → List ℕ → List Field
 rowsGiven k x y = cond (listed k (Tag (byte y 0))) (shownRows (givenString k x) y 2 (byte y 1) (table (shapeOf (byte y 0)))) []
 
--- the fields of an item that is shown, under their labels; none of one that is not known
-abbrev pub fieldList : FieldValues → List Field
-fieldList (tiny-fields x) = labelled x
-fieldList (board-fields l) = l
-fieldList notKnown = []
-
 -- an item y of the run is shown: its tag, its length byte, and its fields
 pub record ShowsItem (k : Kinds) (x : tiny-parts.Parts) (y : List ℕ) (a : Said ItemValues) : Type 0 where
   pub value : ItemValues
   pub said : a ≡ says value
   pub kind : value .kind ≡ Tag (byte y 0)
   pub size : value .length ≡ byte y 1
-  pub fields : fieldList (value .fields) ≡ rowsGiven k x y
+  pub fields : labelled (value .fields) ≡ rowsGiven k x y
 
 -- the pool is shown: tag 01, as many bytes as given, its string count, and where its data lie, past tag and length byte
 pub record ShowsPool (k : Kinds) (pool : List ℕ) (a : Said ItemValues) : Type 0 where

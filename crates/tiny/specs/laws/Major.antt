@@ -9,7 +9,7 @@ use borrow.Author.Tests.{lt-ltb, le-ltb, le-leb}
 use Rattle.octets.specs.Label.{isText}
 use Rattle.tiny_rules.specs.Rules.{isMajor}
 use Rattle.tiny_rules.specs.laws.Range.{major-range}
-use Rattle.tiny.specs.Major.{digit, capital, majorText}
+use Rattle.tiny.specs.Major.{digit, capital, majorText, MajorShown}
 use Rattle.tiny.specs.declared.Two.{Two}
 
 -- 00h to 63h, and 80h to 99h
@@ -55,3 +55,11 @@ major-text m h = go (major-range m .0 h)
         both _ (in-text (digit (m / 10)) (omega arith) (omega arith), in-text (digit (m % 10)) (omega arith) (omega arith)) (digits m h)
     go (inr h) =
         both _ (in-text (digit 0) (omega arith) (omega arith), in-text (capital (m - 0x80)) (omega arith) (omega (arith, h .1))) (letter m (h .0))
+
+-- the characters of a major in range are the paper's
+pub major-shown : (m : ℕ) → isMajor m ≡ true → MajorShown m (majorText m)
+major-shown m h =
+    elim (major-range m .0 h) [
+      | inl k ↦ inl (k, ap (λ (x : Two). x .first) (digits m k), ap (λ (x : Two). x .second) (digits m k))
+      | inr k ↦ inr (k .0, k .1, ap (λ (x : Two). x .first) (letter m (k .0)), ap (λ (x : Two). x .second) (letter m (k .0)))
+    ]
