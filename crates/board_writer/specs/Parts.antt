@@ -46,7 +46,7 @@ pub record Fits (x : Parts) : Type 0 where
   pub fabId : x .board .fabid < 0x1_0000_0000
   pub ecId : x .board .ecid < 0x1_0000_0000
 
--- each byte is one: those of labels, names and runs, and the fields of one byte. (Those of every call are, by the types of its parameters.)
+-- each byte is one: those of labels, names and runs, and the fields of one byte. (The contract of `write` says that those of every call are.)
 pub record OfBytes (x : Parts) : Type 0 where
   pub partLabel : Octets (sixteenBytes (x .map .partlabel))
   pub busNumber : x .map .busnumber < 256
