@@ -38,6 +38,27 @@ fn ask<I, T>(judged: &Judged<I>, call: impl Fn(&I) -> Judged<T>) -> Said<T> {
     Said(judged.as_ref().map_err(|refusal| *refusal).and_then(call))
 }
 
+/// What a step of a walk shows: an item, as asked by its number, or that none is left.
+enum Step<T> {
+    Shown(T),
+    NoneLeft,
+}
+
+impl<T: Display> Display for Step<T> {
+    fn fmt(&self, f: &mut Formatter) -> fmt::Result {
+        match self {
+            Step::Shown(item) => item.fmt(f),
+            Step::NoneLeft => f.write_str("none left"),
+        }
+    }
+}
+
+/// Step i of a walk over as many items: "step i (from 0) shows item i as asked by number for every i below
+/// the count, and the step at the count says that none is left".
+fn step<T>(i: usize, count: usize, item: impl Fn() -> Judged<T>) -> Judged<Step<T>> {
+    if i < count { item().map(Step::Shown) } else { Ok(Step::NoneLeft) }
+}
+
 // ---- tiny images ----
 
 struct Referred<'a>(Reference<'a>);
@@ -88,6 +109,7 @@ fn answer_tiny(out: &mut impl Write, image: &[u8], kinds: u32) -> io::Result<()>
     writeln!(out, "{}", ask(&judged, |tiny: &Tiny| Ok(format!("accepted {}", tiny.count))))?;
     for i in 0..=items {
         writeln!(out, "item {i} {}", ask(&judged, |tiny| tiny.item(i)))?;
+        writeln!(out, "step {i} {}", ask(&judged, |tiny| step(i, tiny.count, || tiny.item(i))))?;
     }
     for i in 0..=strings + 1 {
         writeln!(out, "string {i} {}", ask(&judged, |tiny| tiny.string(i).map(Referred)))?;
@@ -138,6 +160,7 @@ fn answer_board(out: &mut impl Write, image: &[u8], kinds: u32) -> io::Result<()
     writeln!(out, "{}", ask(&judged, |board: &Board| Ok(format!("accepted {}", board.count))))?;
     for i in (0..count.min(24)).chain([count]) {
         writeln!(out, "item {i} {}", ask(&judged, |board| board.item(i)))?;
+        writeln!(out, "step {i} {}", ask(&judged, |board| step(i, board.count, || board.item(i))))?;
         answer_records(out, &format!("gpio {i}"), |r| ask(&judged, |board| board.gpio_record(i, r)))?;
     }
     answer_records(out, "map", |r| ask(&judged, |board| board.map_record(r)))

@@ -11,15 +11,16 @@ def tiny_shown():
     """Each tag known and not known, references and strings as text and undecodable."""
     first = {tag: ("serial text", "serial undecodable") for tag in tiny_images.KNOWN}
     first.update({0x01: ("strings",), 0x11: ("flags",), 0x60: ("address",)})
-    items = ("item %02X %s" % (tag, what) for tag in tiny_images.KNOWN for what in ("unknown", *first[tag]))
-    return (*items, "string text", "string undecodable")
+    items = ("%s %02X %s" % (call, tag, what) for call in ("item", "step") for tag in tiny_images.KNOWN for what in ("unknown", *first[tag]))
+    return (*items, "step none", "string text", "string undecodable")
 
 
 def board_shown():
     """Each structure known, those that a list can lack not known too, and records of both kinds."""
     always = (board_images.EEPROM, board_images.MAP, board_images.BOARD, board_images.PROMSIG)
-    known = ["item %s major" % kind.hex().upper() for kind in (*always, *board_images.LISTED)]
-    return (*known, *("item %s unknown" % kind.hex().upper() for kind in board_images.LISTED), "map MapLabel", "gpio GpioLabel")
+    shown = [(kind, "major") for kind in (*always, *board_images.LISTED)] + [(kind, "unknown") for kind in board_images.LISTED]
+    items = ("%s %s %s" % (call, kind.hex().upper(), what) for call in ("item", "step") for kind, what in shown)
+    return (*items, "step none", "map MapLabel", "gpio GpioLabel")
 
 
 # a format: its name in those of programs; the full list, and another one; how many bytes a record has for its list and for its image's
@@ -28,15 +29,16 @@ def board_shown():
 # they must have shown: the call, an item's kind, and what is shown first of it or "unknown"
 Format = collections.namedtuple("Format", "name full another list_bytes length_bytes room rules listed late images runs sources calls shown")
 TINY = Format("tiny", 255, lambda rnd: rnd.choice([0, 254, 253, 251, rnd.randrange(256)]), 1, 2, 65536, range(1, 12), 8, (42, 43, 44),
-              tiny_images.images, tiny_runs, ("tiny.c",), ("item", "string"), tiny_shown())
+              tiny_images.images, tiny_runs, ("tiny.c",), ("item", "step", "string"), tiny_shown())
 BOARD = Format("board", board_images.FULL, lambda rnd: rnd.choice([0, board_images.FULL - (1 << rnd.randint(8, 16)), rnd.getrandbits(17)]),
                4, 4, 262144, range(20, 34), 32, (42,), board_images.images, board_runs, ("board.c", "board_write.c"),
-               ("item", "map", "gpio"), board_shown())
+               ("item", "step", "map", "gpio"), board_shown())
 
 
 def due(form):
-    """What the calls by number must have answered: what they show, each refusal of an image, and 42."""
-    return {*form.shown, *("%s refused %d" % (call, number) for call in form.calls for number in (*form.rules, 42))}
+    """What the calls by number must have answered: what they show, each refusal of an image, and 42. (A step past the last says that none is left.)"""
+    refused = {"%s refused %d" % (call, number) for call in form.calls for number in (*form.rules, 42)}
+    return {*form.shown, *refused} - {"step refused 42"}
 
 
 def with_fewer(form, said):

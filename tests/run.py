@@ -202,7 +202,7 @@ def shown(image):
 
 
 # the call in a line of `tiny_answers` or `board_answers`, the kind of an item, and what is shown first or the refusal
-SHOWN = re.compile(rb"^(item|string|map|gpio)(?: \d+)+ (?:(?:tag|kind) (\w+) place \d+ length \d+ )?(refused \d+|serial \w+|\w+)", re.MULTILINE)
+SHOWN = re.compile(rb"^(item|step|string|map|gpio)(?: \d+)+ (?:(?:tag|kind) (\w+) place \d+ length \d+ )?(refused \d+|serial \w+|\w+)", re.MULTILINE)
 
 
 def compare(form, others, made, seed):

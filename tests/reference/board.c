@@ -509,9 +509,9 @@ static bool print_refusal(struct answer answer) {
     return answer.refusal != 0;
 }
 
-static void answer_item(const struct board *b, unsigned i) {
+/* what is shown of an item, as asked by its number */
+static void answer_shown(const struct board *b, unsigned i) {
     const struct span *s;
-    printf("item %u", i);
     if (print_refusal(item_by_number(b, i, &s)))
         return;
     printf(" kind ");
@@ -526,6 +526,17 @@ static void answer_item(const struct board *b, unsigned i) {
     if (s->kind->data)
         printf(" data %u %u", s->place + s->kind->fixed, s->length - s->kind->fixed);
     putchar('\n');
+}
+
+/* item i, and step i of a walk: "step i (from 0) shows item i as asked by number .., and the step at the count says that none is left" */
+static void answer_item(const struct board *b, unsigned i) {
+    printf("item %u", i);
+    answer_shown(b, i);
+    printf("step %u", i);
+    if (!b->judged.refusal && i == b->judged.value)
+        puts(" none left");
+    else
+        answer_shown(b, i);
 }
 
 /* the records of item i, up to the first that is refused */

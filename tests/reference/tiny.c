@@ -453,23 +453,34 @@ static bool print_refusal(struct answer answer) {
     return answer.refusal != 0;
 }
 
+/* what is shown of an item, as asked by its number */
+static void answer_shown(const uint8_t *image, size_t lent, unsigned list, unsigned i) {
+    struct item item;
+    if (print_refusal(item_by_number(image, lent, list, i, &item)))
+        return;
+    printf("tag %02X place %u length %u ", item.tag, item.place, item.length);
+    if (item.known)
+        answer_fields(&item);
+    else
+        fputs("unknown", stdout);
+}
+
 static void all_answers(const uint8_t *image, size_t lent, unsigned list) {
     static const unsigned sizes[4] = {0, 3, 4, 255};
     struct answer judged = judge(image, lent, list);
     unsigned strings = judged.refusal ? 0 : string_count(image, list);
-    struct item item;
     struct text text;
     if (!print_refusal(judged))
         printf("accepted %u", judged.value);
     for (unsigned i = 0; i <= judged.value; i++) {
         printf("\nitem %u ", i);
-        if (print_refusal(item_by_number(image, lent, list, i, &item)))
-            continue;
-        printf("tag %02X place %u length %u ", item.tag, item.place, item.length);
-        if (item.known)
-            answer_fields(&item);
+        answer_shown(image, lent, list, i);
+        /* "step i (from 0) shows item i as asked by number .., and the step at the count says that none is left" */
+        printf("\nstep %u ", i);
+        if (!judged.refusal && i == judged.value)
+            fputs("none left", stdout);
         else
-            fputs("unknown", stdout);
+            answer_shown(image, lent, list, i);
     }
     for (unsigned i = 0; i <= strings + 1; i++) {
         printf("\nstring %u ", i);

@@ -1,4 +1,4 @@
-// Items by number.
+// Items by number, and what each step of a walk shows.
 use super::records::put_gpio;
 use super::text::put_data;
 use super::text::put_refusal;
@@ -22,6 +22,9 @@ use console::put_decimal;
 use console::put_hex;
 use console::put_number;
 use kinds::Kinds;
+use reader::Format;
+use reader::StepAnswer;
+use reader::step_numbered;
 
 fn put_eeprom(x: EepromFields) {
     put_number(b"StructLen", x.structlen as usize);
@@ -132,7 +135,29 @@ fn put_shown(shown: ShownItem) {
     put(b"\n");
 }
 
-// The answer for the item of a number, and for its GPIO records.
+// An item of a walk, which is of this format.
+fn put_stepped(item: reader::Item) {
+    match item {
+        reader::Item::Tiny(_) => put(b"tiny\n"),
+        reader::Item::Board(shown) => put_shown(shown),
+    }
+}
+
+// What the step of a number shows, from a fresh walk on.
+fn put_step(image: &[u8], kinds: Kinds, number: usize) {
+    put(b"step ");
+    put_decimal(number);
+    put(b" ");
+    let answer = step_numbered(Format::Board, image, kinds, number);
+    match answer {
+        StepAnswer::Nothing => put(b"nothing\n"),
+        StepAnswer::Shown(item) => put_stepped(item),
+        StepAnswer::NoneLeft => put(b"none left\n"),
+        StepAnswer::Refused(refusal) => put_refusal(refusal),
+    }
+}
+
+// The answer for the item of a number, for the step of that number, and for its GPIO records.
 fn put_item(image: &[u8], kinds: Kinds, number: usize) {
     put(b"item ");
     put_decimal(number);
@@ -142,6 +167,7 @@ fn put_item(image: &[u8], kinds: Kinds, number: usize) {
         ItemAnswer::Shown(shown) => put_shown(shown),
         ItemAnswer::Refused(refusal) => put_refusal(refusal),
     }
+    put_step(image, kinds, number);
     put_gpio(image, kinds, number);
 }
 

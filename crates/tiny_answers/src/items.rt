@@ -1,4 +1,4 @@
-// Items by number.
+// Items by number, and what each step of a walk shows.
 use super::text::put_refusal;
 use super::text::put_text;
 use console::put;
@@ -6,6 +6,9 @@ use console::put_decimal;
 use console::put_hex;
 use kinds::Kinds;
 use octets::Six;
+use reader::Format;
+use reader::StepAnswer;
+use reader::step_numbered;
 use tiny::Identity;
 use tiny::Item;
 use tiny::ItemAnswer;
@@ -96,6 +99,29 @@ fn put_shown(image: &[u8], shown: ShownItem) {
     put_fields(image, item);
 }
 
+// An item of a walk, which is of this format.
+fn put_stepped(image: &[u8], item: reader::Item) {
+    match item {
+        reader::Item::Tiny(shown) => put_shown(image, shown),
+        reader::Item::Board(_) => put(b"board"),
+    }
+}
+
+// What the step of a number shows, from a fresh walk on.
+fn put_step(image: &[u8], kinds: Kinds, number: usize) {
+    put(b"step ");
+    put_decimal(number);
+    put(b" ");
+    let answer = step_numbered(Format::Tiny, image, kinds, number);
+    match answer {
+        StepAnswer::Nothing => put(b"nothing"),
+        StepAnswer::Shown(item) => put_stepped(image, item),
+        StepAnswer::NoneLeft => put(b"none left"),
+        StepAnswer::Refused(refusal) => put_refusal(refusal),
+    }
+    put(b"\n");
+}
+
 fn put_item(image: &[u8], kinds: Kinds, number: usize) {
     put(b"item ");
     put_decimal(number);
@@ -106,9 +132,10 @@ fn put_item(image: &[u8], kinds: Kinds, number: usize) {
         ItemAnswer::Refused(refusal) => put_refusal(refusal),
     }
     put(b"\n");
+    put_step(image, kinds, number);
 }
 
-// The items from 0 to the count.
+// The items from 0 to the count, and the steps of these numbers.
 pub fn put_items(image: &[u8], kinds: Kinds, count: usize) {
     let mut i = 0;
     while i < count {
