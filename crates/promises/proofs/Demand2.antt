@@ -2,8 +2,9 @@
 use Prim.Native.Nat.{ℕ}
 use mathlib.Core.List.{List}
 use mathlib.Core.Logic.{_↔_}
-use mathlib.Core.Path.{_≡_, ap, _∙_}
+use mathlib.Core.Path.{_≡_, refl, sym, ap, subst, _∙_}
 use lib.ListN.{length}
+use Rattle.board.specs.Items as board
 use Rattle.board_rules.specs.laws.Table as board-table
 use Rattle.board_writer.specs.laws.Rebuilt as board-rebuilt
 use Rattle.board_writer.specs.laws.Written as board-written
@@ -20,11 +21,12 @@ use Rattle.promises.specs.Answers.{answers}
 use Rattle.promises.specs.Demand1.{table}
 use Rattle.promises.specs.Demand2.{Demand2}
 use Rattle.reader.specs.Answers.{numbered, itemIf, itemNumbered}
-use Rattle.reader.specs.Formats.{judged, places}
+use Rattle.reader.specs.Formats.{judged, places, kindAt, asKind, lengthAt}
 use Rattle.reader.specs.Items.{poolOf, itemAt}
-use Rattle.reader.specs.Values.{itemValues, itemSaid}
+use Rattle.reader.specs.Values.{ItemValues, itemValues, itemSaid}
 use Rattle.reader.specs.declared.Format.{Format}
 use Rattle.reader.specs.declared.Format.the-variants.{Tiny, Board}
+use Rattle.tiny.specs.Items as tiny
 use Rattle.tiny_rules.specs.laws.Table as tiny-table
 use Rattle.tiny_writer.specs.laws.Rebuilt as tiny-rebuilt
 use Rattle.tiny_writer.specs.laws.Written as tiny-written
@@ -48,6 +50,20 @@ unfolding answers itemNumbered
 item-shown f k s n e i p at =
     ap (λ (j : Judged). itemSaid s (itemIf f k s i j)) e ∙ ap (λ (x : Found). itemSaid s (numbered f k s x)) at
 
+-- its kind, place and data length are those at its place
+head-shown : (f : Format) (k : Kinds) (s : List ℕ) (n : ℕ) → judged f k s ≡ Accepted n → (i p : ℕ) → nth (places f s) i ≡ At p → (x : ItemValues)
+    → answers f k s .item i ≡ says x → (x .kind ≡ asKind f (kindAt f s p)) × (x .place ≡ p) × (x .length ≡ lengthAt f s p)
+unfolding tiny.itemAt board.itemAt
+head-shown f k s n e i p at x said =
+    let z : itemValues s (itemAt f k s (poolOf f k s) p) ≡ x = let w = sym (item-shown f k s n e i p at) ∙ said in cc in
+    subst (λ (v : ItemValues). (v .kind ≡ asKind f (kindAt f s p)) × (v .place ≡ p) × (v .length ≡ lengthAt f s p)) z (here f)
+  where
+    here : (f : Format)
+        → (itemValues s (itemAt f k s (poolOf f k s) p) .kind ≡ asKind f (kindAt f s p)) × (itemValues s (itemAt f k s (poolOf f k s) p) .place ≡ p)
+        × (itemValues s (itemAt f k s (poolOf f k s) p) .length ≡ lengthAt f s p)
+    here Tiny = (refl, refl, refl)
+    here Board = (refl, refl, refl)
+
 pub demand2 : Demand2
 unfolding answers
 demand2 =
@@ -55,6 +71,7 @@ demand2 =
       accepted = accepted-exactly;
       item = λ f k s n e. item-shown f k s n (accepted-by f k s n e);
       reference = λ k s n e on. texts-shown k s n (accepted-by Tiny k s n e) on;
+      head = λ f k s n e. head-shown f k s n (accepted-by f k s n e);
       fields = λ f k s n e. fields-shown f k s n (accepted-by f k s n e);
       major = λ k s n e. major-shown k s n (accepted-by Tiny k s n e);
       count = λ k s n e on. pool-count k s n (accepted-by Tiny k s n e) on;

@@ -28,7 +28,7 @@ use Rattle.promises.specs.Demand1.{table}
 use Rattle.promises.specs.Hidden.{hasPool}
 use Rattle.promises.specs.Rows.{labelled, knownRows}
 use Rattle.promises.specs.ReadBack.{TinyShows, BoardShows}
-use Rattle.reader.specs.Formats.{places}
+use Rattle.reader.specs.Formats.{places, kindAt, asKind, lengthAt}
 use Rattle.reader.specs.Items.{poolOf, itemAt}
 use Rattle.reader.specs.Values.{FieldValues, tiny-fields, board-fields, notKnown, ItemValues, itemValues}
 use Rattle.reader.specs.declared.Format.{Format}
@@ -97,6 +97,9 @@ pub record Demand2 : Type 0 where
   -- "Each field shown is the field those rules define": item i shows what the tables define at its place
   pub item : (f : Format) (k : Kinds) (s : List ℕ) (n : ℕ) → answers f k s .judge ≡ says n → (i p : ℕ) → nth (places f s) i ≡ At p
       → answers f k s .item i ≡ says (itemValues s (itemAt f k s (poolOf f k s) p))
+  -- "kind (the tag, or the eight signature bytes), place (of its first byte), data length", known or not
+  pub head : (f : Format) (k : Kinds) (s : List ℕ) (n : ℕ) → answers f k s .judge ≡ says n → (i p : ℕ) → nth (places f s) i ≡ At p → (x : ItemValues)
+      → answers f k s .item i ≡ says x → (x .kind ≡ asKind f (kindAt f s p)) × (x .place ≡ p) × (x .length ≡ lengthAt f s p)
   -- under each label the number, the bytes or the string at its row, and of an item not known nothing
   pub fields : (f : Format) (k : Kinds) (s : List ℕ) (n : ℕ) → answers f k s .judge ≡ says n → (i : ℕ) (x : ItemValues) → answers f k s .item i ≡ says x
       → labelled (x .fields) ≡ knownRows f k s (x .place)
