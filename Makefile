@@ -31,11 +31,11 @@ write: ## write an image: make write REQUEST='12; 10 01 00; 74 6F 70 B1' (buffer
 	@rt check $(or $(FORMAT),tiny)_write >target/write.log 2>&1 || { cat target/write.log; exit 1; }
 	@printf '%s\n' "$$REQUEST" | target/bin/$(or $(FORMAT),tiny)_write
 
-host: ## build the library and the program that an upload shop calls: target/host/upload (host/chip.h, host/upload.c)
+host: ## build the library and the program that an upload shop calls: target/host/upload (chip/chip.h, chip/upload.c)
 	@command -v $(CC) >/dev/null || { echo "host: no C compiler: $(CC) is not found"; exit 1; }
 	@mkdir -p target/host
 	@rt staticlib host >target/host/log 2>&1 || { cat target/host/log; exit 1; }
-	@$(CC) -std=c11 -O2 -Wall -Wextra -pedantic -o target/host/upload host/upload.c target/staticlib/libhost.a
+	@$(CC) -std=c11 -O2 -Wall -Wextra -pedantic -o target/host/upload chip/upload.c target/staticlib/libhost.a
 	@echo "built target/host/upload and target/staticlib/libhost.a"
 
 compare: ## compare with readers and writers in C and Rust: make compare IMAGES=20000 SEED=1 BOARDS=12000

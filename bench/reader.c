@@ -4,7 +4,7 @@
 #include <stdio.h>
 #include <zlib.h>
 
-#include "../host/chip.h"
+#include "../chip/chip.h"
 #include "../tests/independent.h"
 #include "images.h"
 #include "timing.h"

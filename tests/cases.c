@@ -1,11 +1,11 @@
 /*
- * The cases of paper 01 through C: what the functions of host/chip.h must answer, as the paper has it. Exit: 0 if they do, 1 at the first that does not.
+ * The cases of paper 01 through C: what the functions of chip/chip.h must answer, as the paper has it. Exit: 0 if they do, 1 at the first that does not.
  */
 #include <stdio.h>
 #include <stdlib.h>
 #include <string.h>
 
-#include "../host/chip.h"
+#include "../chip/chip.h"
 
 enum { FULL = CHIP_KINDS_FULL, ROOM = 8192, HEADER = 0x30, MAP = 0x30, RECORD = 0x20, BOARD = 0x60 };
 

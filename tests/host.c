@@ -1,5 +1,5 @@
 /*
- * Holds the functions that are exported to C (host/chip.h, reader.h) against tests/independent.rs, image by image, in one program.
+ * Holds the functions that are exported to C (chip/chip.h, reader.h) against tests/independent.rs, image by image, in one program.
  *
  *     host < records
  *
@@ -17,7 +17,7 @@
 #include <inttypes.h>
 #include <stdlib.h>
 
-#include "../host/chip.h"
+#include "../chip/chip.h"
 #include "independent.h"
 
 enum {

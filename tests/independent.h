@@ -1,5 +1,5 @@
 /*
- * What tests/independent.rs exports: the calls of host/chip.h, of tests/reader.h, and a whole walk, with the same arguments and answers.
+ * What tests/independent.rs exports: the calls of chip/chip.h, of tests/reader.h, and a whole walk, with the same arguments and answers.
  */
 #ifndef INDEPENDENT_H
 #define INDEPENDENT_H

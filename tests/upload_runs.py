@@ -1,4 +1,4 @@
-"""Tries the host program, host/upload.c, and the header that it includes: every outcome with its exit status, and what is then in the folder."""
+"""Tries the host program, chip/upload.c, and the header that it includes: every outcome with its exit status, and what is then in the folder."""
 import os
 import subprocess
 
@@ -11,9 +11,9 @@ HEADERS = (("gcc", "c", "c99"), ("gcc", "c", "c17"), ("g++", "c++", "c++11"), ("
 
 
 def headers():
-    """host/chip.h compiles without a warning, as C and as C++."""
+    """chip/chip.h compiles without a warning, as C and as C++."""
     for compiler, language, standard in HEADERS:
-        subprocess.run([compiler, "-x", language, "-std=" + standard, "-Wall", "-Wextra", "-pedantic", "-Werror", "-fsyntax-only", "host/chip.h"],
+        subprocess.run([compiler, "-x", language, "-std=" + standard, "-Wall", "-Wextra", "-pedantic", "-Werror", "-fsyntax-only", "chip/chip.h"],
                        check=True)
     return len(HEADERS)
 
@@ -94,8 +94,8 @@ def boards(folder):
 
 
 def try_upload(folder, libraries):
-    program = build(folder, "upload", "host/upload.c", libraries["host"])
+    program = build(folder, "upload", "chip/upload.c", libraries["host"])
     tried = Folder(os.path.join(folder, "shop"), program)
     photographs(tried)
     boards(tried)
-    print("tests: host/chip.h compiled %d ways without a warning; %d runs of host/upload.c ended as they must" % (headers(), tried.runs))
+    print("tests: chip/chip.h compiled %d ways without a warning; %d runs of chip/upload.c ended as they must" % (headers(), tried.runs))

@@ -20,7 +20,7 @@ chosenNumber (refused n p) = number (refused n p)
 abbrev pub numbered : {A B : Type 0} → (A → Said ℕ) → A × B → ℕ × B
 numbered said x = (number (said (x .0)), x .1)
 
--- what C takes out of a number (host/chip.h: chip_refusal; chip_value and chip_place; chip_is_eeprom)
+-- what C takes out of a number (chip/chip.h: chip_refusal; chip_value and chip_place; chip_is_eeprom)
 abbrev pub refusalBits : ℕ → ℕ
 refusalBits a = a / 0x100000000 % 0x100
 

@@ -1,5 +1,5 @@
 // The host's functions: the judges, the choice and the name, for C. A slice is a pointer and a length, a reader's list is the number of its bits, and every
-// answer is one 64-bit number. host/chip.h declares them and takes an answer apart.
+// answer is one 64-bit number. chip/chip.h declares them and takes an answer apart.
 use choice::ChoiceAnswer;
 use choice::choice;
 use kinds::Kinds;

@@ -1,6 +1,6 @@
 /*
  * The EEPROM chips of a workshop rig, for C and C++: the judges of tiny images and of board images, the choice between two board images, and the file name
- * of a tiny image. `make host` builds the library, target/staticlib/libhost.a; host/upload.c is a program that uses it.
+ * of a tiny image. `make host` builds the library, target/staticlib/libhost.a; chip/upload.c is a program that uses it.
  *
  * What holds of every call, and is proved of the library:
  * - it takes every image of every length, ends, reads nothing but the images that it is lent, and writes nothing but the front of the name buffer;
