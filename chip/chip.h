@@ -1,15 +1,22 @@
 /*
- * The EEPROM chips of a workshop rig, for C and C++: the judges of tiny images and of board images, the choice between two board images, and the file name
- * of a tiny image. `make host` builds the library, target/staticlib/libhost.a; chip/upload.c is a program that uses it.
+ * The EEPROM chips of a workshop rig, for C (C99 and later) and C++ (C++11 and later): the judges of tiny images and of
+ * board images, the choice between two board images, and the name that a tiny image gives a photograph.
  *
  * What holds of every call, and is proved of the library:
- * - it takes every image of every length, ends, reads nothing but the images that it is lent, and writes nothing but the front of the name buffer;
+ * - it takes every image of every length, it ends, it reads nothing but the images that it is lent, and it writes nothing
+ *   but the front of the name buffer;
+ * - it answers as the papers say, for every image;
  * - a refused call changes no byte of the name buffer.
  *
- * The library keeps nothing between calls and has no heap, so calls from several threads do not meet.
+ * What is tested, on the platform that the library is built for, x86-64 Linux:
+ * - a call takes at most CHIP_STACK bytes of stack, and no heap;
+ * - it has no static data and keeps nothing between calls, so any number of threads may call it at once, and so may a
+ *   signal handler.
  *
- * What the caller owes: a pointer with a length stands for that many bytes that can be read (the name buffer: and written); with a length of 0 the pointer is
- * not followed. The name buffer does not overlap the image.
+ * What the caller owes: a pointer with a length stands for that many bytes that can be read (of the name buffer: and
+ * written). Where the length is 0, the pointer is not followed. The name buffer does not overlap the image.
+ *
+ * A program is linked with libchip.a: cc program.c $(pkg-config --cflags --libs chip). chip(3) says the same as this file.
  */
 #ifndef CHIP_H
 #define CHIP_H
@@ -22,10 +29,26 @@
 extern "C" {
 #endif
 
+/* The version of this header; chip_version() is that of the library which a program is linked with. */
+#define CHIP_VERSION_MAJOR 1
+#define CHIP_VERSION_MINOR 0
+#define CHIP_VERSION_PATCH 0
+#define CHIP_VERSION (CHIP_VERSION_MAJOR * 10000 + CHIP_VERSION_MINOR * 100 + CHIP_VERSION_PATCH)
+#define CHIP_VERSION_TEXT "1.0.0"
+
+/* The compiler warns where an answer is thrown away. */
+#if defined(__cplusplus) && __cplusplus >= 201703L
+#define CHIP_MUST_USE [[nodiscard]]
+#elif defined(__GNUC__)
+#define CHIP_MUST_USE __attribute__((warn_unused_result))
+#else
+#define CHIP_MUST_USE
+#endif
+
 /*
- * The list of the kinds that a reader knows: a bit for each tag of tiny images and for each structure of board images. Any set of them is a list; bits 17 to
- * 31 count for nothing. An item of a kind that is not on the list, or a listed structure of another VerMajor than 1, is passed over by its length, and nothing
- * inside it is judged.
+ * The list of the kinds that a reader knows: a bit for each tag of tiny images and for each structure of board images. Any
+ * set of them is a list; bits 17 to 31 count for nothing. An item of a kind that is not on the list, or a listed structure
+ * of another VerMajor than 1, is passed over by its length, and nothing inside it is judged.
  */
 #define CHIP_KIND_01 UINT32_C(0x00001)      /* string pool */
 #define CHIP_KIND_10 UINT32_C(0x00002)      /* serial number */
@@ -49,98 +72,158 @@ extern "C" {
 #define CHIP_KINDS_BARE UINT32_C(0)       /* none */
 
 enum {
-    CHIP_TINY_LONGEST = 255,    /* bytes of a tiny image, and more than any name has */
-    CHIP_BOARD_LONGEST = 65536 /* bytes of a board image; more are refused with 20 */
+    CHIP_TINY_LONGEST = 255,     /* bytes of a tiny image, and more than any name has */
+    CHIP_BOARD_LONGEST = 65536,  /* bytes of a board image; more are refused with CHIP_BOARD_SIZE */
+    CHIP_STACK = 16384           /* bytes of stack that a call takes at most */
+};
+
+/* The numbers of the refusals; chip_refusal_text() has the words, and beside each of them at which place it is told. */
+enum {
+    CHIP_ACCEPTED = 0,
+
+    CHIP_TINY_SIZE = 1,
+    CHIP_TINY_FIRST_BYTE = 2,
+    CHIP_TINY_VERSION = 3,
+    CHIP_TINY_LENGTH = 4,
+    CHIP_TINY_CHECK = 5,
+    CHIP_TINY_ITEM = 6,
+    CHIP_TINY_TAG_00 = 7,
+    CHIP_TINY_POOL_PLACE = 8,
+    CHIP_TINY_POOL_BYTE = 9,
+    CHIP_TINY_INDEX = 10,
+    CHIP_TINY_RANGE = 11,
+
+    CHIP_BOARD_SIZE = 20,
+    CHIP_BOARD_HEADER = 21,
+    CHIP_BOARD_STRUCTLEN = 22,
+    CHIP_BOARD_STRUCTURE = 23,
+    CHIP_BOARD_PADDING = 24,
+    CHIP_BOARD_ORDER = 25,
+    CHIP_BOARD_HEAD = 26,
+    CHIP_BOARD_CHECK = 27,
+    CHIP_BOARD_END = 28,
+    CHIP_BOARD_HASHTYPE = 29,
+    CHIP_BOARD_MAP = 30,
+    CHIP_BOARD_BOARDTYPE = 31,
+    CHIP_BOARD_RESERVED = 32,
+    CHIP_BOARD_FIELD = 33,
+
+    CHIP_IMAGE_TOO_LONG = 40,
+    CHIP_BUFFER_TOO_SHORT = 41,
+    CHIP_NO_SUCH_NUMBER = 42,
+    CHIP_ROOM_TOO_SHORT = 43,
+    CHIP_NO_NAME = 44,
+    CHIP_PROMSIG = 45,
+    CHIP_RUN = 46
 };
 
 /*
- * The calls. Each answers one number:
+ * An answer. It is a struct so that no compiler takes `if (chip_tiny_judge(..))` for a question: chip_accepted() asks it, and
+ * the functions below it take an answer apart. On x86-64 it is handed over as the number in it is, in a register:
  *
  *     bits 0 to 31     the count or the length, or for a refusal its place, counted in bytes from the image's first; at most 65,536
  *     bits 32 to 39    the number of the refusal; 0: none
  *     bit 40           chip_board_choice alone: 0 for the firmware image, 1 for the EEPROM image
  *
- * The other bits are 0. The lowest number that applies is given, and within a number the smallest place where the rule is broken.
+ * The other bits are 0. Where several rules are broken, the first in the papers' table is told, and of the places where it
+ * is broken the smallest.
  */
+typedef struct chip_answer {
+    uint64_t bits;
+} chip_answer;
 
-/* The count of items of a tiny image; or refused with 1 to 11. */
-uint64_t chip_tiny_judge(const uint8_t *image, size_t length, uint32_t kinds);
+/* ---- the calls ---- */
 
-/* The count of structures of a board image; or refused with 20 to 33. */
-uint64_t chip_board_judge(const uint8_t *image, size_t length, uint32_t kinds);
+/* The version of the library, as CHIP_VERSION is that of this header. */
+CHIP_MUST_USE uint32_t chip_version(void);
 
-/* Which of two board images is chosen, and its length: that many bytes from its first, which may be fewer than were lent. If neither is accepted, the refusal
-   of the firmware image, with 20 to 33. */
-uint64_t chip_board_choice(const uint8_t *firmware, size_t firmware_length, const uint8_t *eeprom, size_t eeprom_length, uint32_t kinds);
+/* How many items a tiny image has; or refused with 1 to 11. */
+CHIP_MUST_USE chip_answer chip_tiny_judge(const uint8_t *image, size_t length, uint32_t kinds);
 
-/* The length of a tiny image's file name, which goes to the front of the buffer without a zero behind it; the rest of the buffer stays as it was. Its
-   characters are 20h to 7Eh, '/' among them. Or refused with 1 to 11, 44 or 43, and the buffer is as it was. */
-uint64_t chip_tiny_name(const uint8_t *image, size_t length, uint32_t kinds, uint8_t *buffer, size_t room);
+/* How many structures a board image has; or refused with 20 to 33. */
+CHIP_MUST_USE chip_answer chip_board_judge(const uint8_t *image, size_t length, uint32_t kinds);
 
-/* Whether an answer is no refusal. */
-static inline bool chip_accepted(uint64_t answer) {
-    return (answer >> 32 & 0xFF) == 0;
+/* Which of two board images a rig goes by, and its length: that many bytes from its first, which may be fewer than were
+   lent. If neither is accepted, the refusal of the firmware image, with 20 to 33. */
+CHIP_MUST_USE chip_answer chip_board_choice(const uint8_t *firmware, size_t firmware_length, const uint8_t *eeprom,
+                                            size_t eeprom_length, uint32_t kinds);
+
+/* The length of the name that a tiny image gives. The name goes to the front of the buffer, without a zero behind it; the
+   rest of the buffer stays as it was. Its characters are 20h to 7Eh, '/' among them. Or refused with 1 to 11, CHIP_NO_NAME
+   or CHIP_ROOM_TOO_SHORT, and the buffer is as it was. */
+CHIP_MUST_USE chip_answer chip_tiny_name(const uint8_t *image, size_t length, uint32_t kinds, uint8_t *buffer, size_t room);
+
+/* ---- what an answer says ---- */
+
+/* The number of the refusal; CHIP_ACCEPTED (0) where there is none. */
+CHIP_MUST_USE static inline unsigned chip_refusal(chip_answer answer) {
+    return (unsigned)(answer.bits >> 32 & 0xFF);
 }
 
-/* The number of the refusal; 0: none. */
-static inline unsigned chip_refusal(uint64_t answer) {
-    return (unsigned)(answer >> 32 & 0xFF);
+/* Whether an answer is no refusal. */
+CHIP_MUST_USE static inline bool chip_accepted(chip_answer answer) {
+    return chip_refusal(answer) == CHIP_ACCEPTED;
 }
 
 /* The place of the refusal; 0 where there is none. */
-static inline uint32_t chip_place(uint64_t answer) {
-    return chip_accepted(answer) ? 0 : (uint32_t)(answer & UINT32_MAX);
+CHIP_MUST_USE static inline uint32_t chip_place(chip_answer answer) {
+    return chip_accepted(answer) ? 0 : (uint32_t)(answer.bits & UINT32_MAX);
 }
 
 /* The count or the length; 0 where the call is refused. */
-static inline uint32_t chip_value(uint64_t answer) {
-    return chip_accepted(answer) ? (uint32_t)(answer & UINT32_MAX) : 0;
+CHIP_MUST_USE static inline uint32_t chip_value(chip_answer answer) {
+    return chip_accepted(answer) ? (uint32_t)(answer.bits & UINT32_MAX) : 0;
 }
 
 /* Whether the EEPROM image is chosen. */
-static inline bool chip_is_eeprom(uint64_t answer) {
-    return (answer >> 40 & 1) == 1;
+CHIP_MUST_USE static inline bool chip_is_eeprom(chip_answer answer) {
+    return (answer.bits >> 40 & 1) == 1;
 }
 
 /*
- * What the number of a refusal says; beside it, at which place. 40, 41, 42, 45 and 46 are refusals of the writers and of items and strings by number, which
- * no call here answers.
+ * What the number of a refusal says. 40, 41, 42, 45 and 46 are refusals of the writers and of items, records and strings by
+ * number, which no call of this library gives; the programs that come with it do.
  */
-static inline const char *chip_refusal_text(unsigned number) {
+CHIP_MUST_USE static inline const char *chip_refusal_text(unsigned number) {
     switch (number) {
-    case 0: return "accepted";
+    case CHIP_ACCEPTED: return "accepted";
     /* tiny images */
-    case 1: return "fewer than 4 bytes"; /* at 0 */
-    case 2: return "the first byte is not 56h"; /* at 0 */
-    case 3: return "the version is not 2"; /* at 1 */
-    case 4: return "the length byte is below 4 or above the number of bytes"; /* at 2 */
-    case 5: return "the check byte is not the CRC-8 of the bytes before it"; /* at the check byte */
-    case 6: return "an item, or its length byte, does not end before the check byte"; /* at its tag */
-    case 7: return "the long tag 00"; /* at its tag */
-    case 8: return "the pool is not the last item"; /* at its tag */
-    case 9: return "a pool byte is no character, or the last one has no end mark"; /* at the byte */
-    case 10: return "an index is not below the string count"; /* at the index */
-    case 11: return "a major, minor, pair of characters or batch is out of range"; /* at the field's first byte */
+    case CHIP_TINY_SIZE: return "fewer than 4 bytes"; /* at 0 */
+    case CHIP_TINY_FIRST_BYTE: return "the first byte is not 56h"; /* at 0 */
+    case CHIP_TINY_VERSION: return "the version is not 2"; /* at 1 */
+    case CHIP_TINY_LENGTH: return "the length byte is below 4 or above the number of bytes"; /* at 2 */
+    case CHIP_TINY_CHECK: return "the check byte is not the CRC-8 of the bytes before it"; /* at the check byte */
+    case CHIP_TINY_ITEM: return "an item, or its length byte, does not end before the check byte"; /* at its tag */
+    case CHIP_TINY_TAG_00: return "the long tag 00"; /* at its tag */
+    case CHIP_TINY_POOL_PLACE: return "the pool is not the last item"; /* at its tag */
+    case CHIP_TINY_POOL_BYTE: return "a pool byte is no character, or the last one has no end mark"; /* at the byte */
+    case CHIP_TINY_INDEX: return "an index is not below the string count"; /* at the index */
+    case CHIP_TINY_RANGE: return "a major, minor, pair of characters or batch is out of range"; /* at the field's first byte */
     /* board images */
-    case 20: return "fewer than 48 bytes, or more than 65536"; /* at 0 */
-    case 21: return "the header has another signature, VerMajor or Length"; /* at 0 */
-    case 22: return "StructLen is below 48 or above the number of bytes"; /* at 16 */
-    case 23: return "no structure where one is due"; /* at its start */
-    case 24: return "a byte between structures is not zero"; /* at the byte */
-    case 25: return "a structure is missing, or in the wrong order"; /* at its start, or StructLen */
-    case 26: return "the map, the board or the signature structure has a wrong VerMajor or Length"; /* at its start */
-    case 27: return "Crc32 or CrcLength is not what it should be"; /* at 20 or 24 */
-    case 28: return "the board structure ends past 4096"; /* at its start */
-    case 29: return "HashType is not one that is known, or Length does not fit it"; /* at HashType */
-    case 30: return "a field of the map is wrong"; /* at the field, or the label's bad byte */
-    case 31: return "BoardType is above 1"; /* at the field */
-    case 32: return "a reserved byte is not zero"; /* at the byte */
-    case 33: return "a structure is too short, or a field of it is wrong"; /* at its start, the field, or the label's bad byte */
-    /* the name; all at 0 */
-    case 43: return "the name buffer is too short";
-    case 44: return "no name: not exactly one known serial number, or its text cannot be decoded";
+    case CHIP_BOARD_SIZE: return "fewer than 48 bytes, or more than 65536"; /* at 0 */
+    case CHIP_BOARD_HEADER: return "the header has another signature, VerMajor or Length"; /* at 0 */
+    case CHIP_BOARD_STRUCTLEN: return "StructLen is below 48 or above the number of bytes"; /* at 16 */
+    case CHIP_BOARD_STRUCTURE: return "no structure where one is due"; /* at its start */
+    case CHIP_BOARD_PADDING: return "a byte between structures is not zero"; /* at the byte */
+    case CHIP_BOARD_ORDER: return "a structure is missing, or in the wrong order"; /* at its start, or StructLen */
+    case CHIP_BOARD_HEAD: return "the map, the board or the signature structure has a wrong VerMajor or Length"; /* at its start */
+    case CHIP_BOARD_CHECK: return "Crc32 or CrcLength is not what it should be"; /* at 20 or 24 */
+    case CHIP_BOARD_END: return "the board structure ends past 4096"; /* at its start */
+    case CHIP_BOARD_HASHTYPE: return "HashType is not one that is known, or Length does not fit it"; /* at HashType */
+    case CHIP_BOARD_MAP: return "a field of the map is wrong"; /* at the field, or the label's bad byte */
+    case CHIP_BOARD_BOARDTYPE: return "BoardType is above 1"; /* at the field */
+    case CHIP_BOARD_RESERVED: return "a reserved byte is not zero"; /* at the byte */
+    case CHIP_BOARD_FIELD: return "a structure is too short, or a field of it is wrong"; /* at its start, the field, or the label's bad byte */
+    /* the writers, and what is asked for by number: at 0, but for the last two */
+    case CHIP_IMAGE_TOO_LONG: return "the image would have over 255 bytes, or as a board over 65536";
+    case CHIP_BUFFER_TOO_SHORT: return "the lent buffer is too short for the image";
+    case CHIP_NO_SUCH_NUMBER: return "no item, record or string has this number";
+    case CHIP_ROOM_TOO_SHORT: return "the lent list or name buffer is too short";
+    case CHIP_NO_NAME: return "no name: not exactly one known serial number, or its text cannot be decoded";
+    case CHIP_PROMSIG: return "the further bytes have a $PromSig, which no writer makes"; /* at its start */
+    case CHIP_RUN: return "an item's length is not its tag's, an item is a pool, or an item or record is cut short"; /* at the item's number */
+    default: return "no number of a refusal";
     }
-    return "no number of these calls";
 }
 
 #ifdef __cplusplus
