@@ -1,101 +1,224 @@
-"""Tries the host program, chip/upload.c, and the header that it includes: every outcome with its exit status, and what is then in the folder."""
+"""Tries `chip upload` and `-o`: each outcome, and that a stop at any point leaves the whole file under its name or none, and never one overwritten."""
 import os
+import random
+import resource
+import signal
 import subprocess
+import tempfile
+import time
 
-import board_images
 import tiny_images
-from building import ENVIRONMENT, build, fail
+from building import ENVIRONMENT, fail
+from chip_runs import DONE, FILES, REFUSED, USAGE, SOURCES, Desk, named
 
 PHOTOGRAPH, OTHER = b"a photograph" * 20000, b"another one"
-HEADERS = (("gcc", "c", "c99"), ("gcc", "c", "c17"), ("g++", "c++", "c++11"), ("g++", "c++", "c++20"))
+LARGE = random.Random(0).randbytes(6000000)
+BESIDE = ".unfinished\u00b7"  # how the name begins of a file that is being written
+ROUNDS = 60  # kills at some time
+AT_ONCE = 8  # uploads at once
 
 
-def headers():
-    """chip/chip.h compiles without a warning, as C and as C++."""
-    for compiler, language, standard in HEADERS:
-        subprocess.run([compiler, "-x", language, "-std=" + standard, "-Wall", "-Wextra", "-pedantic", "-Werror", "-fsyntax-only", "chip/chip.h"],
-                       check=True)
-    return len(HEADERS)
+def entries(folder):
+    """What is in a folder, by name."""
+    found = {}
+    for name in os.listdir(folder):
+        with open(os.path.join(folder, name), "rb") as f:
+            found[name] = f.read()
+    return found
 
 
-def named(*names):
-    """A chip with a serial number for each of these names."""
-    serials = [tiny_images.item(0x10, [k]) for k in range(len(names))]
-    return tiny_images.finish(b"".join(serials) + tiny_images.item(0x01, tiny_images.pack(names)))
+def outcomes(desk):
+    """A photograph is stored once, and nothing is stored, here or elsewhere, where there is no name."""
+    os.mkdir(os.path.join(desk.path, "photographs"))
+    for name, content in (("photo", PHOTOGRAPH), ("other", OTHER), ("chip", named(b"top1")), ("fresh", named(b"a b")), ("hidden", named(b".unfinished-1"))):
+        desk.put(name, content)
+    desk.chip(DONE, "upload", "chip", "photo", "photographs", out="stored photographs/top1\n")
+    desk.chip(REFUSED, "upload", "chip", "other", "photographs", says="photographs/top1 is there already and stays as it is")
+    desk.chip(DONE, "upload", "hidden", "photo", "photographs", out="stored photographs/.unfinished-1\n")
+    for name, image, says in (
+            ("damaged", named(b"top1")[:-1] + b"\0", "refused 5 at 11 (Bh)"), ("empty", b"", "refused 1 at 0 (0h)"),
+            ("nameless", tiny_images.finish(b""), "refused 44 at 0 (0h)"), ("two", named(b"one", b"two"), "refused 44 at 0 (0h)"),
+            ("outside", named(b"../out"), "cannot be the name of a file"), ("root", named(b"/out"), "cannot be the name of a file"),
+            ("below", named(b"a/b"), "cannot be the name of a file"), ("dot", named(b"."), "cannot be the name of a file"),
+            ("dots", named(b".."), "cannot be the name of a file")):
+        desk.put(name, image)
+        desk.chip(REFUSED, "upload", name, "photo", "photographs", says=says)
+    desk.chip(FILES, "upload", "missing", "photo", "photographs", says="missing: cannot be read")
+    desk.chip(FILES, "upload", "fresh", "missing", "photographs", says="missing: cannot be read")
+    desk.chip(FILES, "upload", "fresh", "photographs", "photographs", says="photographs: cannot be read: Is a directory")
+    desk.chip(FILES, "upload", "fresh", "photo", "no-folder", says="no-folder: no file can be made there")
+    desk.chip(FILES, "upload", "fresh", "photo", "other", says="other: no file can be made there: Not a directory")
+    desk.chip(USAGE, "upload", "-", "-", "photographs", says="not both")
+    desk.chip(DONE, "upload", "fresh", "-", "photographs", given=OTHER, out="stored photographs/a b\n")
+    desk.chip(DONE, "upload", "-", "photo", "photographs", given=named(b"z" * 247), out="stored photographs/%s\n" % ("z" * 247))
+    if entries(os.path.join(desk.path, "photographs")) != {"top1": PHOTOGRAPH, ".unfinished-1": PHOTOGRAPH, "a b": OTHER, "z" * 247: PHOTOGRAPH}:
+        fail("upload stored %s" % sorted(os.listdir(os.path.join(desk.path, "photographs"))))
+    if set(os.listdir(desk.path)) & {"out", "b", "a"} or os.path.exists("/out") or os.path.exists(os.path.join(desk.path, "..", "out")):
+        fail("upload stored a photograph outside the folder")
 
 
-class Folder:
-    """A folder with files, and what upload does there."""
-
-    def __init__(self, path, program):
-        self.path, self.program, self.runs = path, program, 0
-        os.mkdir(path)
-        os.mkdir(os.path.join(path, "photographs"))
-
-    def put(self, name, content):
-        with open(os.path.join(self.path, name), "wb") as f:
-            f.write(content)
-
-    def stored(self):
-        found = {}
-        for name in os.listdir(os.path.join(self.path, "photographs")):
-            with open(os.path.join(self.path, "photographs", name), "rb") as f:
-                found[name] = f.read()
-        return found
-
-    def upload(self, status, *words, says=""):
-        """Runs it: the exit status must be this one, and what it prints must have these words in it."""
-        run = subprocess.run([self.program, *words], cwd=self.path, stdout=subprocess.PIPE, stderr=subprocess.STDOUT, env=ENVIRONMENT)
-        if run.returncode != status or says not in run.stdout.decode():
-            fail("upload %s: status %d, and not %d, or not %r in:\n%s" % (" ".join(words), run.returncode, status, says, run.stdout.decode()))
-        self.runs += 1
+def folder_of(desk):
+    return tempfile.mkdtemp(dir=desk.path)
 
 
-def photographs(folder):
-    """A photograph is stored once, and nothing is stored where there is no name."""
-    folder.put("photo", PHOTOGRAPH)
-    folder.put("other", OTHER)
-    folder.put("chip", named(b"top1"))
-    folder.upload(0, "chip", "photo", "photographs", says="stored photographs/top1")
-    folder.upload(5, "chip", "other", "photographs", says="there already")
-    for name, image, status, says in (
-            ("damaged", named(b"top1")[:-1] + b"\0", 4, "refused 5 at"),
-            ("empty", b"", 4, "refused 1 at 0"),
-            ("nameless", tiny_images.finish(b""), 4, "refused 44 at 0"),
-            ("two", named(b"one", b"two"), 4, "refused 44 at 0"),
-            ("outside", named(b"../out"), 6, "cannot be the name of a file"),
-            ("dot", named(b"."), 6, "cannot be the name of a file"),
-            ("dots", named(b".."), 6, "cannot be the name of a file")):
-        folder.put(name, image)
-        folder.upload(status, name, "photo", "photographs", says=says)
-    folder.put("fresh", named(b"a b"))
-    folder.upload(7, "missing", "photo", "photographs", says="missing: cannot be read")
-    folder.upload(7, "fresh", "missing", "photographs", says="missing: cannot be read")
-    folder.upload(7, "fresh", "photographs", "photographs", says="cannot be copied")
-    folder.upload(7, "fresh", "photo", "no-folder", says="cannot be made")
-    folder.upload(0, "fresh", "other", "photographs", says="stored photographs/a b")
-    if folder.stored() != {"top1": PHOTOGRAPH, "a b": OTHER}:
-        fail("upload stored %s" % sorted(folder.stored()))
+def whole_or_none(folder, due, when):
+    """Each name has its whole photograph or is not there; how many files that were being written are left."""
+    found = entries(folder)
+    left = [name for name in found if name.startswith(BESIDE)]
+    for name, content in found.items():
+        if name not in left and due.get(name) != content:
+            fail("%s: %s has %d bytes of another content" % (when, name, len(content)))
+    return len(left)
 
 
-def boards(folder):
-    """Which of two board images is chosen."""
-    image = board_images.case_13()
-    folder.put("good", image)
-    folder.put("long", image.ljust(65536, b"\0"))
-    folder.put("longer", image.ljust(65537, b"\0"))
-    folder.upload(0, "--board", "good", "good", says="chosen firmware good: 224 bytes")
-    folder.upload(0, "--board", "long", "longer", says="chosen firmware long: 224 bytes")
-    folder.upload(3, "--board", "longer", "long", says="chosen EEPROM long: 224 bytes")
-    folder.upload(4, "--board", "chip", "longer", says="chip: refused 20 at 0")
-    folder.upload(7, "--board", "good", "missing", says="missing: cannot be read")
-    folder.upload(2, says="usage")
-    folder.upload(2, "--board", "good", says="usage")
+def next_run(desk, folder):
+    """Another upload takes away what is left, and stores its own."""
+    desk.chip(DONE, "upload", "fresh", "other", folder, out="stored %s/a b\n" % folder)
+    if any(name.startswith(BESIDE) for name in os.listdir(folder)):
+        fail("%s is still there after the next upload" % sorted(os.listdir(folder)))
 
 
-def try_upload(folder, libraries):
-    program = build(folder, "upload", "chip/upload.c", libraries["host"])
-    tried = Folder(os.path.join(folder, "shop"), program)
-    photographs(tried)
-    boards(tried)
-    print("tests: chip/chip.h compiled %d ways without a warning; %d runs of chip/upload.c ended as they must" % (headers(), tried.runs))
+def stops(desk, plain, stopper):
+    """Killed right before each call that matters, one after the other."""
+    left = stored = at = 0
+    while True:
+        at += 1
+        folder = folder_of(desk)
+        run = subprocess.run([plain, "upload", "chip", "photo", folder], cwd=desk.path, stdout=subprocess.PIPE,
+                             env={**os.environ, "LD_PRELOAD": stopper, "STOP_AT": str(at)})
+        if run.returncode not in (DONE, -signal.SIGKILL):
+            fail("upload, stopped at call %d, ended with %d" % (at, run.returncode))
+        left += whole_or_none(folder, {"top1": PHOTOGRAPH}, "upload stopped at call %d" % at)
+        stored += os.path.exists(os.path.join(folder, "top1"))
+        next_run(desk, folder)
+        status = REFUSED if os.path.exists(os.path.join(folder, "top1")) else DONE
+        again = subprocess.run([plain, "upload", "chip", "photo", folder], cwd=desk.path, capture_output=True)
+        if again.returncode != status or entries(folder) != {"top1": PHOTOGRAPH, "a b": OTHER}:
+            fail("after a stop at call %d an upload ended with %d, and left %s" % (at, again.returncode, sorted(os.listdir(folder))))
+        if run.returncode == DONE:
+            break
+    if at < 15 or not 3 <= left < at or not 2 <= stored < at - 5:
+        fail("%d stops left %d files behind and %d photographs stored" % (at, left, stored))
+    return at - 1, left
+
+
+def replacements(desk, plain, stopper):
+    """The same of a file that -o replaces: it is as it was, or whole."""
+    at, seen = 0, set()
+    desk.put("request", b"12; 10 01 00; 74 6F 70 B1\n")
+    while True:
+        at += 1
+        folder = folder_of(desk)
+        desk.put(os.path.join(folder, "image"), OTHER)
+        run = subprocess.run([plain, "write", "request", "-o", os.path.join(folder, "image")], cwd=desk.path, capture_output=True,
+                             env={**os.environ, "LD_PRELOAD": stopper, "STOP_AT": str(at)})
+        if run.returncode == FILES:
+            continue  # the writer that it runs was stopped, and not the command
+        seen.add(entries(folder)["image"])
+        if run.returncode == DONE:
+            break
+    if seen != {OTHER, named(b"top1")}:
+        fail("a file that -o replaces had %s" % seen)
+    return at - 1
+
+
+def kills(desk, plain):
+    """Killed at some time, again and again."""
+    rnd, left, stored = random.Random(1), 0, 0
+    began = time.monotonic()
+    subprocess.run([plain, "upload", "chip", "large", folder_of(desk)], cwd=desk.path, stdout=subprocess.PIPE, check=True)
+    takes = time.monotonic() - began
+    for turn in range(ROUNDS):
+        folder = folder_of(desk)
+        with subprocess.Popen([plain, "upload", "chip", "large", folder], cwd=desk.path, stdout=subprocess.PIPE) as process:
+            time.sleep(rnd.uniform(0, 1.2 * takes))
+            process.kill()
+        left += whole_or_none(folder, {"top1": LARGE}, "upload killed at some time")
+        stored += os.path.exists(os.path.join(folder, "top1"))
+        next_run(desk, folder)
+        for name in os.listdir(folder):
+            os.remove(os.path.join(folder, name))
+    if not left or not stored:
+        fail("%d kills left %d files behind and %d photographs stored" % (ROUNDS, left, stored))
+
+
+def full_disks(desk, plain):
+    """A file over the limit of its size, and a small file system where one can be made: nothing is left, and the status says it."""
+    def limited():
+        resource.setrlimit(resource.RLIMIT_FSIZE, (100000, 100000))
+
+    folder = folder_of(desk)
+    desk.chip(FILES, "upload", "chip", "photo", folder, says="the photograph cannot be written there: File too large", preexec_fn=limited)
+    if os.listdir(folder):
+        fail("a file over the limit left %s" % os.listdir(folder))
+    script = 'mount -t tmpfs -o size=128k none "$1" || exit 99; "$0" upload chip photo "$1"; status=$?; ls -A "$1"; exit $status'
+    run = subprocess.run(["unshare", "-m", "sh", "-c", script, plain, folder], cwd=desk.path, capture_output=True)
+    if run.returncode not in (FILES, 99, 1) or run.returncode == FILES and (run.stdout or b"No space left" not in run.stderr):
+        fail("a full disk: status %d, %s%s" % (run.returncode, run.stdout.decode(), run.stderr.decode()))
+    return run.returncode == FILES
+
+
+def unwritable(desk, plain):
+    """A folder that may not be written. Root may write every folder, so it is tried as nobody."""
+    folder = folder_of(desk)
+    os.chmod(folder, 0o555)
+    user = {"user": 65534, "group": 65534, "extra_groups": []} if os.geteuid() == 0 else {}
+    run = subprocess.run([plain, "upload", "chip", "photo", folder], cwd=desk.path, capture_output=True, **user)
+    if run.returncode != FILES or b"no file can be made there: Permission denied" not in run.stderr or os.listdir(folder):
+        fail("a folder that may not be written: status %d, %s" % (run.returncode, run.stderr.decode()))
+
+
+def at_once(desk, plain):
+    """Several uploads of one name at once: one is stored, whole, and the others are told; and several names: all are stored."""
+    photographs = {"photo%d" % k: bytes([k]) * (300000 + k) for k in range(AT_ONCE)}
+    for name, content in photographs.items():
+        desk.put(name, content)
+        desk.put("chip-" + name, named(name.encode()))
+    for turn in range(10):
+        one, many = folder_of(desk), folder_of(desk)
+        running = [(name, chip, subprocess.Popen([plain, "upload", chip, name, folder], cwd=desk.path, stdout=subprocess.PIPE, stderr=subprocess.PIPE))
+                   for name in photographs for chip, folder in (("chip", one), ("chip-" + name, many))]
+        ended = [(name, chip, process.communicate() and process.returncode) for name, chip, process in running]
+        winners = [name for name, chip, status in ended if chip == "chip" and status == DONE]
+        others = [status for name, chip, status in ended if chip == "chip" and status != DONE]
+        if len(winners) != 1 or set(others) != {REFUSED} or entries(one) != {"top1": photographs[winners[0]]}:
+            fail("uploads of one name at once: %s stored, the others %s" % (winners, others))
+        if any(status for _, chip, status in ended if chip != "chip") or entries(many) != photographs:
+            fail("uploads of several names at once: %s stored" % sorted(entries(many)))
+
+
+def slow(desk, plain):
+    """What another upload is still writing stays."""
+    folder = folder_of(desk)
+    with subprocess.Popen([plain, "upload", "chip", "-", folder], cwd=desk.path, stdin=subprocess.PIPE, stdout=subprocess.PIPE) as process:
+        process.stdin.write(PHOTOGRAPH[:100000])
+        process.stdin.flush()
+        while not any(name.startswith(BESIDE) for name in os.listdir(folder)):
+            time.sleep(0.01)
+        desk.chip(DONE, "upload", "fresh", "other", folder, out="stored %s/a b\n" % folder)
+        if sum(name.startswith(BESIDE) for name in os.listdir(folder)) != 1:
+            fail("what an upload is still writing was taken away: %s" % sorted(os.listdir(folder)))
+        process.communicate(PHOTOGRAPH[100000:])
+    if process.returncode or entries(folder) != {"top1": PHOTOGRAPH, "a b": OTHER}:
+        fail("a slow upload ended with %d and left %s" % (process.returncode, sorted(os.listdir(folder))))
+
+
+def try_upload(folder, libraries, program):
+    """With the command that is built with the sanitizers, and where it is killed with a plain one."""
+    os.chmod(folder, 0o755)  # so that nobody gets to what is in it
+    desk = Desk(os.path.join(folder, "shop"), program)
+    plain, stopper = os.path.join(os.path.dirname(program), "plain"), os.path.join(folder, "stopping.so")
+    strict = ["gcc", "-std=c11", "-O2", "-Wall", "-Wextra", "-Werror"]
+    subprocess.run([*strict, "-o", plain, *("chip/" + name for name in SOURCES), libraries["host"]], check=True)
+    subprocess.run([*strict, "-shared", "-fPIC", "-o", stopper, "tests/stopping.c", "-ldl"], check=True)
+    outcomes(desk)
+    desk.put("large", LARGE)
+    points, left = stops(desk, plain, stopper)
+    replaced = replacements(desk, plain, stopper)
+    kills(desk, plain)
+    small = full_disks(desk, plain)
+    unwritable(desk, plain)
+    at_once(desk, plain)
+    slow(desk, plain)
+    print("tests: chip upload: %d runs ended as they must; killed at %d points one by one (%d files left behind, and taken away) and %d times at some time, "
+          "-o at %d points; a limit of size%s; %d at once" % (desk.runs, points, left, ROUNDS, replaced, " and a full disk" if small else "", AT_ONCE))

@@ -1,0 +1,107 @@
+/* chip write: the image that a proved writer makes of a request (docs/WRITING.md has the form of a request). */
+#include "command.h"
+
+#include <ctype.h>
+#include <stdlib.h>
+#include <string.h>
+
+enum { LONGEST_REQUEST = 262144 };
+
+struct request {
+    const char *path;
+    size_t length;
+    char text[LONGEST_REQUEST + 1];
+};
+
+static enum status read_request(const char *path, struct request *request) {
+    bool standard = strcmp(path, "-") == 0;
+    FILE *file = standard ? stdin : fopen(path, "rb");
+    request->path = standard ? "standard input" : path;
+    if (!file)
+        return file_error(request->path, "cannot be read");
+    request->length = fread(request->text, 1, sizeof request->text, file);
+    enum status status = ferror(file) ? file_error(request->path, "cannot be read") : DONE;
+    if (!standard)
+        fclose(file);
+    if (status == DONE && request->length > LONGEST_REQUEST) {
+        complain("%s: a request has at most %d bytes", request->path, LONGEST_REQUEST);
+        return USAGE;
+    }
+    return status;
+}
+
+/* Which writer a request is for: it must be one line, and where no format was typed its semicolons tell. */
+static enum status tell_writer(const struct request *request, enum format typed, const char **program) {
+    size_t lines = 0, semicolons = 0;
+    for (size_t i = 0; i < request->length; i++) {
+        lines += request->text[i] != '\n' && (i == 0 || request->text[i - 1] == '\n');
+        semicolons += request->text[i] == ';';
+    }
+    if (lines != 1) {
+        complain("%s: one request is one line, and here are %zu", request->path, lines);
+        return USAGE;
+    }
+    enum format format = typed != NOT_SAID ? typed : semicolons == 5 ? BOARD : semicolons == 1 || semicolons == 2 ? TINY : NOT_SAID;
+    *program = format == TINY ? "tiny_write" : "board_write";
+    if (format != NOT_SAID)
+        return DONE;
+    complain("%s: no request: a tiny image's has one or two semicolons, a board image's five", request->path);
+    return USAGE;
+}
+
+/* The value of a hexadecimal digit. */
+static unsigned value(char digit) {
+    return (unsigned)(isdigit((unsigned char)digit) ? digit - '0' : digit - 'A' + 10);
+}
+
+/* The bytes of "length N: BYTES", each a blank and two digits, put at the front of the text. */
+static size_t take_bytes(char *text) {
+    size_t count = strtoul(text + strlen("length "), NULL, 10);
+    const char *digits = strchr(text, ':') + 1;
+    for (size_t i = 0; i < count; i++, digits += 3)
+        text[i] = (char)(value(digits[1]) << 4 | value(digits[2]));
+    return count;
+}
+
+/* The image as it was asked for: its bytes to a file, or in hexadecimal. */
+static enum status hand_out(char *answer, const char *out) {
+    char *end = answer + strcspn(answer, ";\n");
+    *end = 0;
+    if (!out) {
+        puts(strchr(answer, ':') + 2);
+        return DONE;
+    }
+    size_t length = take_bytes(answer);
+    enum status status = save(out, (const uint8_t *)answer, length);
+    if (status == DONE && strcmp(out, "-") != 0)
+        printf("wrote %s: %zu bytes\n", out, length);
+    return status;
+}
+
+/* What a writer answers: an image, a refusal, or that the line is no request. */
+static enum status take_answer(char *answer, const char *path, const char *out) {
+    if (strncmp(answer, "length ", strlen("length ")) == 0)
+        return hand_out(answer, out);
+    bool refused = strncmp(answer, "refused ", strlen("refused ")) == 0;
+    complain("%s: %.*s", path, (int)strcspn(answer, ";\n"), answer);
+    if (!refused)
+        complain("a request is ROOM; RUN or ROOM; RUN; POOL for a tiny image, "
+                 "ROOM; VERSION; MAP; RECORDS; BOARD; FURTHER for a board image; chip(1) says more");
+    return refused ? REFUSED : USAGE;
+}
+
+enum status write_command(const struct typed *typed) {
+    static struct request request;
+    const char *program;
+    struct output output;
+    enum status status = read_request(typed->words[0], &request);
+    if (status == DONE)
+        status = tell_writer(&request, typed->format, &program);
+    if (status == DONE)
+        status = run_program(program, request.text, request.length, &output);
+    if (status != DONE)
+        return status;
+    status = take_answer(output.text, request.path, typed->out);
+    free(output.text);
+    return status;
+}

@@ -1,0 +1,208 @@
+"""Tries the command `chip`: each outcome of each command, with its exit status and what it writes, and what is then on the disk."""
+import os
+import re
+import shutil
+import subprocess
+
+import board_images
+import tiny_images
+from building import ENVIRONMENT, build, fail
+
+PROGRAMS = ("tiny_list", "board_list", "tiny_write", "board_write")
+SOURCES = ("main.c", "say.c", "images.c", "known.c", "check.c", "choose.c", "list.c", "programs.c", "write.c", "store.c", "upload.c")
+DONE, REFUSED, USAGE, FILES = range(4)
+REQUEST = b"12; 10 01 00; 74 6F 70 B1\n"
+WRITTEN = bytes.fromhex("56020C1000010474 6F70B157")
+ANY = re.compile("")
+
+
+def built(folder, library):
+    """The command with the sanitizers, with the programs beside it as they are installed."""
+    for place in ("bin", "libexec/chip"):
+        os.makedirs(os.path.join(folder, place))
+    for name in PROGRAMS:
+        shutil.copy(os.path.join("target", "bin", name), os.path.join(folder, "libexec", "chip"))
+    return build(os.path.join(folder, "bin"), "chip", *("chip/" + name for name in SOURCES), library)
+
+
+def named(*names):
+    """A chip with a serial number for each of these names."""
+    serials = [tiny_images.item(0x10, [k]) for k in range(len(names))]
+    return tiny_images.finish(b"".join(serials) + tiny_images.item(0x01, tiny_images.pack(names)))
+
+
+class Desk:
+    """A folder with files, and runs of the command in it."""
+
+    def __init__(self, path, program):
+        self.path, self.program, self.runs = path, program, 0
+        os.mkdir(path)
+
+    def put(self, name, content):
+        with open(os.path.join(self.path, name), "wb") as f:
+            f.write(content)
+
+    def get(self, name):
+        with open(os.path.join(self.path, name), "rb") as f:
+            return f.read()
+
+    def chip(self, status, *words, out="", says="", given=b"", **more):
+        """Runs it: the status must be this one, standard output these lines (or match), and standard error must have these words."""
+        run = subprocess.run([self.program, *words], cwd=self.path, input=given, capture_output=True, env=ENVIRONMENT, **more)
+        wrote, said = run.stdout.decode("latin-1"), run.stderr.decode("latin-1")
+        good = out.fullmatch(wrote) if isinstance(out, re.Pattern) else wrote == out
+        if run.returncode != status or not good or says not in said or bool(says) != bool(said):
+            fail("chip %s: status %d (due %d), standard output:\n%s(due)\n%s\nstandard error (%r is due):\n%s"
+                 % (" ".join(words), run.returncode, status, wrote, out, says, said))
+        self.runs += 1
+
+
+def lists(desk):
+    """The listing is the stored one, and a refused image is status 1."""
+    for name in sorted(n[:-4] for n in os.listdir("samples") if n.endswith(".bin")):
+        with open("samples/%s.bin" % name, "rb") as image, open("samples/%s.txt" % name) as listing:
+            given, stored = image.read(), listing.read()
+        form = "board" if name.startswith("board-") else "tiny"
+        status = REFUSED if stored.startswith("refused ") else DONE
+        desk.chip(status, "list", "-", "--format", form, given=given, out=stored)
+        lines = stored.splitlines(keepends=True)
+        judged = lines[0] if status else "accepted %s item%s\n" % (lines[0].split()[3], "" if lines[0].split()[3] == "1" else "s")
+        desk.chip(status, "check", "--format=" + form, "-", given=given, out=judged)
+
+
+def formats(desk):
+    """The first byte tells the format; where it does not, nothing is guessed."""
+    desk.chip(DONE, "check", "tiny", out="accepted 2 items\n")
+    desk.chip(DONE, "check", "board", out="accepted 3 items\n")
+    desk.chip(REFUSED, "check", "--format", "board", "tiny", out="refused 20 at 0 (0h): fewer than 48 bytes, or more than 65536\n")
+    desk.chip(REFUSED, "check", "--format", "tiny", "board", out="refused 2 at 0 (0h): the first byte is not 56h\n")
+    for command in ("check", "list", "name"):
+        desk.chip(USAGE, command, "other", says="other: the first byte is 00h, neither 56h (tiny) nor 24h (board); type --format")
+        desk.chip(USAGE, command, "empty", says="empty: no bytes")
+    desk.chip(REFUSED, "list", "--format", "tiny", "empty", out="refused 1 at 0 (0h): fewer than 4 bytes\n")
+
+
+def names(desk):
+    """The name alone on a line, or why there is none."""
+    desk.chip(DONE, "name", "tiny", out="top1\n")
+    desk.chip(DONE, "name", "-", given=named(b"a \"b\\c/d"), out="a \"b\\c/d\n")
+    desk.chip(REFUSED, "name", "-", given=named(b"one", b"two"), says="standard input: refused 44 at 0 (0h): no name:")
+    desk.chip(REFUSED, "name", "damaged", says="damaged: refused 5 at 11 (Bh):")
+    desk.chip(REFUSED, "name", "board", says="only tiny images have a name")
+
+
+def known(desk):
+    """What a rig with another list answers."""
+    for text, status in (("full", DONE), ("01,10", DONE), ("$01,10", DONE), ("full-Logo-$uCode$", DONE), ("bare", REFUSED), ("full-01", REFUSED),
+                         ("full-10", REFUSED), ("10", REFUSED), ("Logo$", REFUSED)):
+        if status:
+            desk.chip(status, "name", "--known", text, "tiny", says="refused 44 at 0 (0h)")
+        else:
+            desk.chip(status, "name", "--known=" + text, "tiny", out="top1\n")
+    for text in ("", ",", "01,", "full-", "full-99", "Full", "01-10", "logo", "full,01"):
+        desk.chip(USAGE, "name", "--known", text, "tiny", says="is no kind")
+    bad = board_images.plain(1, [board_images.structure(board_images.LOGO, b"\1" + bytes(15))]).image()
+    desk.chip(REFUSED, "check", "-", given=bad, out=re.compile(r"refused 32 at \d+ \([0-9A-F]+h\): a reserved byte is not zero\n"))
+    desk.chip(DONE, "check", "--known", "full-Logo", "-", given=bad, out="accepted 4 items\n")
+    desk.chip(DONE, "choose", "--known", "full-Logo", "--which", "-", "board", given=bad, out="firmware\n")
+    desk.chip(DONE, "choose", "--which", "-", "board", given=bad, out="eeprom\n")
+
+
+def choices(desk):
+    """Which of two images, in words and in one; the chosen part as a file."""
+    desk.chip(DONE, "choose", "board", "board", out="the firmware image, board: 224 bytes\n")
+    desk.chip(DONE, "choose", "tiny", "long", out="the EEPROM image, long: 224 bytes\n")
+    desk.chip(DONE, "choose", "long", "longer", out="the firmware image, long: 224 bytes\n")
+    desk.chip(DONE, "choose", "longer", "long", "--which", out="eeprom\n")
+    desk.chip(DONE, "choose", "-o", "chosen", "longer", "long", out="the EEPROM image, long: 224 bytes\n")
+    desk.chip(DONE, "choose", "-o", "-", "--which", "long", "longer", out=desk.get("board").decode("latin-1"))
+    if desk.get("chosen") != desk.get("board"):
+        fail("chip choose -o chosen: not the first StructLen bytes")
+    desk.chip(REFUSED, "choose", "tiny", "longer", "-o", "never", says="tiny: refused 20 at 0 (0h)")
+    desk.chip(REFUSED, "choose", "tiny", "longer", says="longer: refused 20 at 0 (0h)")
+    desk.chip(USAGE, "choose", "-", "-", says="not both")
+    if os.path.exists(os.path.join(desk.path, "never")):
+        fail("chip choose -o never: a file was made of images that are refused")
+
+
+def writes(desk):
+    """An image in hexadecimal, or as a file that is replaced as a whole; a refusal, or no request."""
+    desk.put("request", REQUEST)
+    desk.chip(DONE, "write", "request", out="56 02 0C 10 00 01 04 74 6F 70 B1 57\n")
+    desk.chip(DONE, "write", "-", given=b"\n" + REQUEST.replace(b"12", b"255") + b"\n", out="56 02 0C 10 00 01 04 74 6F 70 B1 57\n")
+    desk.chip(DONE, "write", "request", "-o", "written", out="wrote written: 12 bytes\n")
+    desk.chip(DONE, "write", "request", "-o", "-", out=WRITTEN.decode("latin-1"))
+    desk.put("replaced", b"x" * 100)
+    os.chmod(os.path.join(desk.path, "replaced"), 0o640)
+    os.symlink("replaced", os.path.join(desk.path, "linked"))
+    desk.chip(DONE, "write", "request", "-o", "linked", out="wrote linked: 12 bytes\n")
+    if not desk.get("written") == desk.get("replaced") == WRITTEN or os.stat(os.path.join(desk.path, "replaced")).st_mode & 0o777 != 0o640:
+        fail("chip write -o: another image, or other permissions")
+    board = open("crates/board_write/stdin", "rb").read().splitlines()[0]
+    desk.chip(DONE, "write", "-", given=board, out=re.compile(r"24 45 65 70 72 6F 6D 24 01 [0-9A-F ]*\n"))
+    desk.chip(REFUSED, "write", "-", "-o", "never", given=REQUEST.replace(b"12", b"11"), says="refused 41 at 0 (0h): the lent buffer is too short for the image\n")
+    desk.chip(USAGE, "write", "-", given=REQUEST + REQUEST, says="one request is one line, and here are 2")
+    desk.chip(USAGE, "write", "-", given=b"", says="one request is one line, and here are 0")
+    desk.chip(USAGE, "write", "-", given=b"1; 2; 3; 4", says="no request")
+    desk.chip(USAGE, "write", "-", given=b"12; 1", says="not a request")
+    desk.chip(USAGE, "write", "--format", "board", "request", says="not a request")
+    desk.chip(USAGE, "write", "-", given=b"1" * 262145, says="at most 262144 bytes")
+    desk.chip(FILES, "write", "request", "-o", "no-folder/x", says="no-folder/x: cannot be written: No such file")
+    desk.chip(FILES, "write", "request", "-o", ".", says="cannot be written")
+    if any(name == "never" or name.startswith(".") for name in os.listdir(desk.path)):
+        fail("chip write left %s" % sorted(os.listdir(desk.path)))
+
+
+def usage(desk):
+    """Help, version, and command lines that are wrong."""
+    version = re.search(r'CHIP_VERSION_TEXT "(.*)"', open("chip/chip.h").read())[1]
+    commands = re.findall(r'^    \{"(\w+)", \d', open("chip/main.c").read(), re.MULTILINE)
+    desk.chip(DONE, "--version", out="chip %s (library %s)\n" % (version, version))
+    desk.chip(DONE, "--help", out=re.compile(r"usage: chip COMMAND(.|\n)*" + r"(.|\n)*".join("chip " + c for c in commands) + r"(.|\n)*"))
+    desk.chip(USAGE, says="usage: chip COMMAND")
+    desk.chip(USAGE, "frob", says="frob is no command")
+    for command in commands:
+        desk.chip(DONE, command, "--help", out=re.compile(r"usage: chip %s (.|\n)*Exit status(.|\n)*" % command))
+        desk.chip(USAGE, command, says="a word is missing")
+        desk.chip(USAGE, command, "a", "b", "c", "d", says="a word too many")
+        desk.chip(USAGE, command, "--frob", says="no option of this command: --frob")
+    desk.chip(USAGE, "check", "tiny", "--format", says="a value is missing")
+    desk.chip(USAGE, "check", "tiny", "--format", "Tiny", says="--format is tiny or board, and not Tiny")
+    desk.chip(USAGE, "list", "--known", "full", "tiny", says="no option of this command: --known")
+    if len(commands) != 6:
+        fail("chip has %d commands" % len(commands))
+
+
+def files(desk):
+    """Files that cannot be read; standard output that is full or closed; a program that is missing."""
+    for command in ("list", "check", "name", "write"):
+        desk.chip(FILES, command, "missing", says="missing: cannot be read: No such file")
+        desk.chip(FILES, command, ".", says="cannot be read: Is a directory")
+    desk.chip(FILES, "choose", "board", "missing", says="missing: cannot be read")
+    desk.put("-dashed", desk.get("tiny"))
+    desk.chip(DONE, "check", "--", "-dashed", out="accepted 2 items\n")
+    for words in (["list", "tiny"], ["check", "tiny"], ["name", "tiny"], ["choose", "board", "board"], ["write", "request"], ["--help"], ["--version"]):
+        for redirected, why in ((">/dev/full", "No space left"), (">&-", "Bad file descriptor")):
+            run = subprocess.run(["sh", "-c", '"$0" "$@" ' + redirected, desk.program, *words], cwd=desk.path, stderr=subprocess.PIPE, env=ENVIRONMENT)
+            if run.returncode != FILES or why.encode() not in run.stderr:
+                fail("chip %s %s: status %d, %s" % (" ".join(words), redirected, run.returncode, run.stderr.decode()))
+            desk.runs += 1
+    lister = os.path.join(os.path.dirname(desk.program), "..", "libexec", "chip", "tiny_list")
+    os.rename(lister, lister + "-away")
+    desk.chip(FILES, "list", "tiny", says="libexec/chip/tiny_list: cannot be run: No such file")
+    shutil.copy("/bin/false", lister)
+    desk.chip(FILES, "list", "tiny", says="libexec/chip/tiny_list: it gave no answer")
+    os.rename(lister + "-away", lister)
+
+
+def try_chip(folder, libraries):
+    program = built(os.path.join(folder, "command"), libraries["host"])
+    desk = Desk(os.path.join(folder, "desk"), program)
+    board = board_images.case_13()
+    for name, image in (("tiny", named(b"top1")), ("board", board), ("damaged", named(b"top1")[:-1] + b"\0"), ("other", b"\0" * 60), ("empty", b""),
+                        ("long", board.ljust(65536, b"\0")), ("longer", board.ljust(65537, b"\0"))):
+        desk.put(name, image)
+    for part in (lists, formats, names, known, choices, writes, usage, files):
+        part(desk)
+    print("tests: %d runs of the command chip ended as they must" % desk.runs)
+    return program

@@ -1,0 +1,68 @@
+/*
+ * Loaded into a program before the C library (LD_PRELOAD): kills it, as if the power were cut, right before its call number STOP_AT, counted from 1, of
+ * those functions that change what is on the disk or come between two that do.
+ */
+#define _GNU_SOURCE
+#include <dlfcn.h>
+#include <fcntl.h>
+#include <signal.h>
+#include <stdarg.h>
+#include <stdlib.h>
+#include <sys/file.h>
+#include <sys/types.h>
+#include <unistd.h>
+
+static void count(void) {
+    static long left = -1;
+    const char *stop_at = getenv("STOP_AT");
+    if (left < 0)
+        left = stop_at ? atol(stop_at) : 0;
+    if (left > 0 && --left == 0)
+        raise(SIGKILL);
+}
+
+#define NEXT(name) ((__typeof__(&name))dlsym(RTLD_NEXT, #name))
+
+int openat(int folder, const char *path, int flags, ...) {
+    va_list more;
+    va_start(more, flags);
+    mode_t mode = flags & O_CREAT ? va_arg(more, mode_t) : 0;
+    va_end(more);
+    count();
+    return NEXT(openat)(folder, path, flags, mode);
+}
+
+int flock(int file, int what) {
+    count();
+    return NEXT(flock)(file, what);
+}
+
+ssize_t write(int file, const void *bytes, size_t length) {
+    count();
+    return NEXT(write)(file, bytes, length);
+}
+
+int fsync(int file) {
+    count();
+    return NEXT(fsync)(file);
+}
+
+int linkat(int from, const char *old, int to, const char *name, int flags) {
+    count();
+    return NEXT(linkat)(from, old, to, name, flags);
+}
+
+int renameat(int from, const char *old, int to, const char *name) {
+    count();
+    return NEXT(renameat)(from, old, to, name);
+}
+
+int unlinkat(int folder, const char *name, int flags) {
+    count();
+    return NEXT(unlinkat)(folder, name, flags);
+}
+
+int close(int file) {
+    count();
+    return NEXT(close)(file);
+}
