@@ -1,24 +1,35 @@
 /*
- * Loaded into a program before the C library (LD_PRELOAD): kills it, as if the power were cut, right before its call number STOP_AT, counted from 1, of
- * those functions that change what is on the disk or come between two that do.
+ * Loaded into a program before the C library (LD_PRELOAD): kills it right before its call number STOP_AT, counted from 1, of those functions that change
+ * what is on the disk or come between two that do; and writes the names of those calls to the file TRACE, a line for each.
  */
 #define _GNU_SOURCE
 #include <dlfcn.h>
 #include <fcntl.h>
 #include <signal.h>
 #include <stdarg.h>
+#include <stdio.h>
 #include <stdlib.h>
 #include <sys/file.h>
 #include <sys/types.h>
 #include <unistd.h>
 
-static void count(void) {
+static void trace(const char *call) {
+    const char *path = getenv("TRACE");
+    FILE *file = path ? fopen(path, "a") : NULL;
+    if (!file)
+        return;
+    fprintf(file, "%s\n", call);
+    fclose(file);
+}
+
+static void count(const char *call) {
     static long left = -1;
     const char *stop_at = getenv("STOP_AT");
     if (left < 0)
         left = stop_at ? atol(stop_at) : 0;
     if (left > 0 && --left == 0)
         raise(SIGKILL);
+    trace(call);
 }
 
 #define NEXT(name) ((__typeof__(&name))dlsym(RTLD_NEXT, #name))
@@ -28,41 +39,41 @@ int openat(int folder, const char *path, int flags, ...) {
     va_start(more, flags);
     mode_t mode = flags & O_CREAT ? va_arg(more, mode_t) : 0;
     va_end(more);
-    count();
+    count("openat");
     return NEXT(openat)(folder, path, flags, mode);
 }
 
 int flock(int file, int what) {
-    count();
+    count("flock");
     return NEXT(flock)(file, what);
 }
 
 ssize_t write(int file, const void *bytes, size_t length) {
-    count();
+    count("write");
     return NEXT(write)(file, bytes, length);
 }
 
 int fsync(int file) {
-    count();
+    count("fsync");
     return NEXT(fsync)(file);
 }
 
 int linkat(int from, const char *old, int to, const char *name, int flags) {
-    count();
+    count("linkat");
     return NEXT(linkat)(from, old, to, name, flags);
 }
 
 int renameat(int from, const char *old, int to, const char *name) {
-    count();
+    count("renameat");
     return NEXT(renameat)(from, old, to, name);
 }
 
 int unlinkat(int folder, const char *name, int flags) {
-    count();
+    count("unlinkat");
     return NEXT(unlinkat)(folder, name, flags);
 }
 
 int close(int file) {
-    count();
+    count("close");
     return NEXT(close)(file);
 }

@@ -1,6 +1,7 @@
 """Tries `chip upload` and `-o`: each outcome, and that a stop at any point leaves the whole file under its name or none, and never one overwritten."""
 import os
 import random
+import re
 import resource
 import signal
 import subprocess
@@ -49,12 +50,27 @@ def outcomes(desk):
     desk.chip(FILES, "upload", "fresh", "photo", "no-folder", says="no-folder: no file can be made there")
     desk.chip(FILES, "upload", "fresh", "photo", "other", says="other: no file can be made there: Not a directory")
     desk.chip(USAGE, "upload", "-", "-", "photographs", says="not both")
+    closed = subprocess.run(["sh", "-c", '"$0" upload fresh photo photographs >&-', desk.program], cwd=desk.path, stderr=subprocess.PIPE, env=ENVIRONMENT)
+    if closed.returncode != FILES or b"standard output" not in closed.stderr:
+        fail("upload without a standard output: status %d, %s" % (closed.returncode, closed.stderr.decode()))
     desk.chip(DONE, "upload", "fresh", "-", "photographs", given=OTHER, out="stored photographs/a b\n")
     desk.chip(DONE, "upload", "-", "photo", "photographs", given=named(b"z" * 247), out="stored photographs/%s\n" % ("z" * 247))
     if entries(os.path.join(desk.path, "photographs")) != {"top1": PHOTOGRAPH, ".unfinished-1": PHOTOGRAPH, "a b": OTHER, "z" * 247: PHOTOGRAPH}:
         fail("upload stored %s" % sorted(os.listdir(os.path.join(desk.path, "photographs"))))
     if set(os.listdir(desk.path)) & {"out", "b", "a"} or os.path.exists("/out") or os.path.exists(os.path.join(desk.path, "..", "out")):
         fail("upload stored a photograph outside the folder")
+
+
+def order(desk, plain, stopper):
+    """What the disk is asked for, in this order: the bytes and a sync before the name, a sync of the folder behind it."""
+    folder, trace = folder_of(desk), os.path.join(desk.path, "trace")
+    subprocess.run([plain, "upload", "chip", "photo", folder], cwd=desk.path, stdout=subprocess.PIPE, check=True,
+                   env={**os.environ, "LD_PRELOAD": stopper, "TRACE": trace})
+    with open(trace) as f:
+        calls = f.read().split("\n")
+    asked = " ".join(call for call in calls if call not in ("close", "openat", "flock", ""))
+    if not re.fullmatch("(write )+fsync linkat fsync unlinkat( write)?", asked):
+        fail("upload asks the disk for: " + asked)
 
 
 def folder_of(desk):
@@ -213,6 +229,7 @@ def try_upload(folder, libraries, program):
     subprocess.run([*strict, "-shared", "-fPIC", "-o", stopper, "tests/stopping.c", "-ldl"], check=True)
     outcomes(desk)
     desk.put("large", LARGE)
+    order(desk, plain, stopper)
     points, left = stops(desk, plain, stopper)
     replaced = replacements(desk, plain, stopper)
     kills(desk, plain)
