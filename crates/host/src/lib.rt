@@ -1,5 +1,5 @@
-// The host's functions: the judges, the choice and the name, for C. A slice is a pointer and a length, a reader's list is the number of its bits, and every
-// answer is one 64-bit number. chip/chip.h declares them and takes an answer apart.
+// The host's functions: the judges, the choice, the name and the version, for C. A slice is a pointer and a length, a reader's list is the number of its
+// bits, and every answer but the version is one 64-bit number. chip/chip.h declares them and takes an answer apart.
 use choice::ChoiceAnswer;
 use choice::choice;
 use kinds::Kinds;
@@ -11,6 +11,7 @@ ghost use mathlib.Core.Path.{_≡_};
 ghost use Rattle.board_rules.specs.Judged as board;
 ghost use Rattle.choice.specs.Choice.{choiceOf, choiceSaid};
 ghost use Rattle.host.specs.Numbers.{number, chosenNumber, numbered};
+ghost use Rattle.host.specs.Version.{version};
 ghost use Rattle.kinds.specs.Kinds.{fromBits};
 ghost use Rattle.tiny.specs.Answers.{nameOf};
 ghost use Rattle.tiny.specs.Values.{nameSaid};
@@ -95,4 +96,12 @@ pub extern "C" fn chip_tiny_name(image: &[u8], kinds: u32, buffer: &mut [u8]) ->
     ensures { λ r. ⌜ (r, now (buffer .exit)) ≡ numbered nameSaid (nameOf (fromBits kinds) (now (image .entry)) (now (buffer .entry))) ⌝ }
 {
     name_number(name(image, Kinds::from_bits(kinds), buffer))
+}
+
+// The version of these functions, for a caller to hold against that of its header.
+#[no_mangle]
+pub extern "C" fn chip_version() -> u32
+    ensures { λ r. ⌜ r ≡ version ⌝ }
+{
+    10000
 }
