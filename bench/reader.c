@@ -4,7 +4,6 @@
 #include <stdio.h>
 #include <zlib.h>
 
-#include "../chip/chip.h"
 #include "../tests/independent.h"
 #include "images.h"
 #include "timing.h"
@@ -24,7 +23,7 @@ typedef struct {
 
 static uint64_t our_judge(const void *on) {
     const Lent *l = on;
-    return l->format == TINY ? chip_tiny_judge(l->image, l->bytes, FULL) : chip_board_judge(l->image, l->bytes, FULL);
+    return l->format == TINY ? chip_tiny_judge(l->image, l->bytes, FULL).bits : chip_board_judge(l->image, l->bytes, FULL).bits;
 }
 
 static uint64_t their_judge(const void *on) {
@@ -44,7 +43,7 @@ static uint64_t their_list(const void *on) {
 
 static uint64_t our_name(const void *on) {
     const Lent *l = on;
-    return chip_tiny_name(l->image, l->bytes, FULL, l->name, NAME_ROOM);
+    return chip_tiny_name(l->image, l->bytes, FULL, l->name, NAME_ROOM).bits;
 }
 
 static uint64_t their_name(const void *on) {
@@ -65,7 +64,7 @@ static void expect(const char *image, const char *what, uint64_t is, uint64_t ex
     exit(1);
 }
 
-static void expect_accepted(const char *image, const char *what, uint64_t answer) {
+static void expect_accepted(const char *image, const char *what, chip_answer answer) {
     if (chip_accepted(answer)) return;
     fprintf(stderr, "bench: %s: %s is refused with %u at %" PRIu32 ": %s\n", image, what, chip_refusal(answer), chip_place(answer),
             chip_refusal_text(chip_refusal(answer)));
@@ -91,7 +90,7 @@ static void check_name(const char *image, const Lent *ours, const Lent *theirs) 
     memset(theirs->name, 0xAA, NAME_ROOM);
     uint64_t length = our_name(ours);
     expect(image, "our name", length, their_name(theirs));
-    expect_accepted(image, "the name", length);
+    expect_accepted(image, "the name", answer_of(length));
     for (size_t i = 0; i < NAME_ROOM; i++) {
         expect(image, "our byte of the name", ours->name[i], theirs->name[i]);
     }
@@ -103,10 +102,10 @@ static void check(const char *image, unsigned refusal, const Lent *ours, const L
     uint64_t count = our_judge(ours);
     expect(image, "our judgement", count, their_judge(theirs));
     if (refusal) {
-        expect(image, "the number of the refusal", chip_refusal(count), refusal);
+        expect(image, "the number of the refusal", chip_refusal(answer_of(count)), refusal);
         return;
     }
-    expect_accepted(image, "the image", count);
+    expect_accepted(image, "the image", answer_of(count));
     expect(image, "our list", our_list(ours), count);
     expect(image, "their list", their_list(theirs), count);
     uint64_t known = check_entries(image, ours->list, theirs->list, ours->items);
@@ -159,7 +158,7 @@ int main(void) {
     for (size_t k = 0; k < IMAGES; k++) {
         size_t n = makers[k].make(images[k]);
         Lent ours = {makers[k].format, images[k], n, 0, lists[0], names[0]};
-        ours.items = makers[k].refusal ? 0 : chip_value(our_judge(&ours));
+        ours.items = makers[k].refusal ? 0 : chip_value(answer_of(our_judge(&ours)));
         Lent theirs = ours;
         theirs.list = lists[1];
         theirs.name = names[1];

@@ -1,6 +1,8 @@
 /*
- * The cases of paper 01 through C: what the functions of chip/chip.h must answer, as the paper has it. Exit: 0 if they do, 1 at the first that does not.
+ * The cases of paper 01 through C: what the functions of chip/chip.h must answer, as the paper has it; and the version. Exit: 0 if they do, 1 at the first
+ * that does not.
  */
+#include <inttypes.h>
 #include <stdio.h>
 #include <stdlib.h>
 #include <string.h>
@@ -15,10 +17,9 @@ enum { FULL = CHIP_KINDS_FULL, ROOM = 8192, HEADER = 0x30, MAP = 0x30, RECORD = 
 
 static unsigned calls;
 
-static void is(const char *what, uint64_t answer, uint64_t due) {
-    if (answer != due) {
-        printf("case %s: answered %u at or with %u, and not %u at or with %u\n", what, chip_refusal(answer), (unsigned)(answer & UINT32_MAX),
-               chip_refusal(due), (unsigned)(due & UINT32_MAX));
+static void is(const char *what, chip_answer answer, uint64_t due) {
+    if (answer.bits != due) {
+        printf("case %s: answered %016" PRIX64 ", and not %016" PRIX64 "\n", what, answer.bits, due);
         exit(1);
     }
     calls++;
@@ -36,12 +37,12 @@ static uint8_t crc8(const uint8_t *bytes, size_t count) {
     return crc;
 }
 
-static uint64_t judge(const char *bytes, size_t length) {
+static chip_answer judge(const char *bytes, size_t length) {
     return chip_tiny_judge((const uint8_t *)bytes, length, FULL);
 }
 
 /* an identity with this major and batch, and a pool of one string */
-static uint64_t judge_identity(uint8_t major, unsigned batch) {
+static chip_answer judge_identity(uint8_t major, unsigned batch) {
     uint8_t image[] = {0x56, 2, 16, 0x80, 0, 0, major, 0, 'A', 'B', (uint8_t)batch, (uint8_t)(batch >> 8), 0x01, 1, 'x' | 0x80, 0};
     image[sizeof image - 1] = crc8(image, sizeof image - 1);
     return chip_tiny_judge(image, sizeof image, FULL);
@@ -54,7 +55,10 @@ static void name_is(const char *what, uint32_t kinds, size_t room, uint64_t due,
     uint8_t buffer[8];
     memset(buffer, '.', sizeof buffer);
     is(what, chip_tiny_name(case_4, sizeof case_4, kinds, buffer, room), due);
-    is(what, (uint64_t)memcmp(buffer, held, sizeof buffer), 0);
+    if (memcmp(buffer, held, sizeof buffer)) {
+        printf("case %s: the buffer holds %.8s, and not %.8s\n", what, (const char *)buffer, held);
+        exit(1);
+    }
 }
 
 static void tiny_cases(void) {
@@ -140,12 +144,12 @@ static struct board *board(struct board *b, uint32_t records, uint32_t version) 
     return b;
 }
 
-static uint64_t judge_board(struct board *b) {
+static chip_answer judge_board(struct board *b) {
     return chip_board_judge(b->bytes, b->length, FULL);
 }
 
 /* The choice where the EEPROM image has another byte at a place of its board structure; no place: 0. */
-static uint64_t choice(uint32_t firmware, uint32_t eeprom, uint32_t place) {
+static chip_answer choice(uint32_t firmware, uint32_t eeprom, uint32_t place) {
     static struct board a, b;
     board(&a, 1, firmware);
     board(&b, 1, eeprom);
@@ -167,9 +171,9 @@ static void board_cases(void) {
     is("11, BrdSerial", choice(3, 4, 0x30), EEPROM(0xE0));
     is("11, EcId", choice(3, 4, 0x48), ACCEPTED(0xE0));
     is("12", judge_board(board(&b, 122, 1)), ACCEPTED(3));
-    is("12", b.length, 0x1000);
+    is("12", chip_board_choice(b.bytes, b.length, NULL, 0, FULL), ACCEPTED(0x1000));
     board(&b, 123, 1);
-    is("12", judge_board(&b), REFUSED(28, b.place));
+    is("12", judge_board(&b), REFUSED(28, 0xFC0));
     board(&b, 1, 1);
     b.bytes[0x80 + 0x4C] = 2; /* BoardType: the board structure is at 80h */
     seal(&b);
@@ -177,9 +181,23 @@ static void board_cases(void) {
     is("13", chip_board_choice(NULL, 0, board(&b, 1, 1)->bytes, ROOM, FULL), EEPROM(0xE0));
 }
 
+/* ---- the version ---- */
+
+/* The library's is that of the header, and the header's words say the same. */
+static void version(void) {
+    char text[16];
+    snprintf(text, sizeof text, "%d.%d.%d", CHIP_VERSION / 10000, CHIP_VERSION / 100 % 100, CHIP_VERSION % 100);
+    if (chip_version() != CHIP_VERSION || strcmp(text, CHIP_VERSION_TEXT) != 0) {
+        printf("the library has the version %" PRIu32 ", its header %d and \"" CHIP_VERSION_TEXT "\"\n", chip_version(), CHIP_VERSION);
+        exit(1);
+    }
+    calls++;
+}
+
 int main(void) {
     tiny_cases();
     board_cases();
-    printf("the papers' cases 1 to 14 through C, %u answers as they must be\n", calls);
+    version();
+    printf("the papers' cases 1 to 14 and the version through C, %u answers as they must be\n", calls);
     return 0;
 }

@@ -17,7 +17,6 @@
 #include <inttypes.h>
 #include <stdlib.h>
 
-#include "../chip/chip.h"
 #include "independent.h"
 
 enum {
@@ -33,10 +32,11 @@ enum {
 
 #define UNKNOWN UINT64_MAX
 
-/* the calls that are counted: chip_tiny_judge, chip_board_judge, chip_board_choice by what it chose, chip_tiny_name, reader_list, reader_step */
-enum { TINY_JUDGE, BOARD_JUDGE, CHOICE_FIRMWARE, CHOICE_EEPROM, NAME, TINY_LIST, BOARD_LIST, STEP, CALLS };
+/* the calls that are counted: chip_tiny_judge, chip_board_judge, chip_board_choice by what it chose, chip_tiny_name, reader_list, reader_step, and
+   independent_walk, which is held against our list */
+enum { TINY_JUDGE, BOARD_JUDGE, CHOICE_FIRMWARE, CHOICE_EEPROM, NAME, TINY_LIST, BOARD_LIST, STEP, WALK, CALLS };
 
-static const char *const names[CALLS] = {"tiny-judge", "board-judge", "firmware", "eeprom", "name", "tiny-list", "board-list", "step"};
+static const char *const names[CALLS] = {"tiny-judge", "board-judge", "firmware", "eeprom", "name", "tiny-list", "board-list", "step", "walk"};
 static uint64_t counts[CALLS][NUMBERS];
 static unsigned long record; /* counted from 0 */
 
@@ -52,12 +52,12 @@ void __asan_on_error(void) {
     fprintf(stderr, "host: record %lu: stopped\n", record);
 }
 
-static void same_answer(const char *call, uint64_t ours, uint64_t theirs) {
-    if (ours != theirs)
-        stop(call, "the answers differ", ours, theirs);
+static void same_answer(const char *call, chip_answer ours, uint64_t theirs) {
+    if (ours.bits != theirs)
+        stop(call, "the answers differ", ours.bits, theirs);
 }
 
-static void count(unsigned call, uint64_t answer) {
+static void count(unsigned call, chip_answer answer) {
     counts[call][chip_refusal(answer)]++;
 }
 
@@ -113,32 +113,32 @@ static bool is_unchanged(struct buffer b, size_t but) {
 
 /* ---- the calls ---- */
 
-static uint64_t judge(unsigned call, const struct lent *lent, uint64_t due) {
+static chip_answer judge(unsigned call, const struct lent *lent, uint64_t due) {
     bool tiny = call == TINY_JUDGE;
     const uint8_t *start = at_start(lent);
-    uint64_t first = (tiny ? chip_tiny_judge : chip_board_judge)(start, lent->length, lent->kinds);
+    chip_answer first = (tiny ? chip_tiny_judge : chip_board_judge)(start, lent->length, lent->kinds);
     const uint8_t *end = at_end(lent);
-    uint64_t answer = (tiny ? chip_tiny_judge : chip_board_judge)(end, lent->length, lent->kinds);
-    same_answer(names[call], first, answer);
+    chip_answer answer = (tiny ? chip_tiny_judge : chip_board_judge)(end, lent->length, lent->kinds);
+    same_answer(names[call], first, answer.bits);
     same_answer(names[call], answer, (tiny ? independent_tiny_judge : independent_board_judge)(end, lent->length, lent->kinds));
-    if (due != UNKNOWN && answer != due)
-        stop(names[call], "the image was made for another answer", answer, due);
+    if (due != UNKNOWN && answer.bits != due)
+        stop(names[call], "the image was made for another answer", answer.bits, due);
     count(call, answer);
     return answer;
 }
 
 /* the name into a buffer of this room, by both */
-static uint64_t name(const struct lent *lent, struct pages pages, size_t room) {
+static chip_answer name(const struct lent *lent, struct pages pages, size_t room) {
     static uint8_t theirs[CHIP_TINY_LONGEST + SPARE];
     const uint8_t *image = at_either(lent);
     struct buffer ours = buffer_in(pages, room);
     memcpy(theirs, ours.bytes, room);
-    uint64_t answer = chip_tiny_name(image, lent->length, lent->kinds, ours.bytes, room);
+    chip_answer answer = chip_tiny_name(image, lent->length, lent->kinds, ours.bytes, room);
     same_answer(names[NAME], answer, independent_tiny_name(image, lent->length, lent->kinds, theirs, room));
     if (memcmp(ours.bytes, theirs, room))
-        stop(names[NAME], "the buffers differ", answer, room);
+        stop(names[NAME], "the buffers differ", answer.bits, room);
     if (!is_unchanged(ours, chip_value(answer)))
-        stop(names[NAME], "a byte is changed that is not the name's", answer, room);
+        stop(names[NAME], "a byte is changed that is not the name's", answer.bits, room);
     count(NAME, answer);
     return answer;
 }
@@ -156,41 +156,51 @@ static bool same_entry(const Entry *a, const Entry *b) {
     return a->kind == b->kind && a->place == b->place && a->length == b->length && a->known == b->known;
 }
 
-/* the list into this much room, by both; the entries of the independent one stay in `theirs` */
-static uint64_t list(unsigned format, const struct lent *lent, struct pages pages, size_t room, Entry *theirs) {
+/* The list into this much room, by both; the entries of the independent one stay in `theirs`. How many entries of ours are known, or the refusal. */
+static chip_answer list(unsigned format, const struct lent *lent, struct pages pages, size_t room, Entry *theirs) {
     unsigned call = format == TINY ? TINY_LIST : BOARD_LIST;
     const uint8_t *image = at_either(lent);
     struct buffer ours = buffer_in(pages, room * sizeof(Entry));
     Entry *entries = (Entry *)ours.bytes;
-    uint64_t answer = reader_list(format, image, lent->length, lent->kinds, entries, room);
+    chip_answer answer = answer_of(reader_list(format, image, lent->length, lent->kinds, entries, room));
     same_answer(names[call], answer, independent_list(format, image, lent->length, lent->kinds, theirs, room));
-    uint32_t filled = chip_value(answer);
+    uint32_t filled = chip_value(answer), known = 0;
     if (filled > room || !is_unchanged(ours, filled * sizeof(Entry)))
-        stop(names[call], "an entry is changed that is not to be filled", answer, room);
-    for (uint32_t i = 0; i < filled; i++)
+        stop(names[call], "an entry is changed that is not to be filled", answer.bits, room);
+    for (uint32_t i = 0; i < filled; i++) {
         if (!same_entry(&entries[i], &theirs[i]))
-            stop(names[call], "an entry differs", i, answer);
+            stop(names[call], "an entry differs", i, answer.bits);
+        known += entries[i].known;
+    }
     count(call, answer);
-    return answer;
+    return chip_accepted(answer) ? answer_of(known) : answer;
+}
+
+/* The independent walk meets as many known items as our list has, or the same refusal. */
+static void walk(unsigned format, const struct lent *lent, chip_answer known) {
+    const uint8_t *image = at_either(lent);
+    same_answer(names[WALK], known, independent_walk(format, image, lent->length, lent->kinds));
+    count(WALK, known);
 }
 
 /* Steps along the items, at most STEPS of them; the last item's, the two past it, and one far past it are among them. */
-static void steps(unsigned format, const struct lent *lent, uint64_t judged, const Entry *items) {
+static void steps(unsigned format, const struct lent *lent, chip_answer judged, const Entry *items) {
     uint32_t last = chip_value(judged), apart = last / STEPS + 1;
+    uint64_t past = chip_accepted(judged) ? (uint64_t)NONE_LEFT << 40 : judged.bits;
     const uint8_t *image = at_either(lent);
     for (size_t number = 0; number <= last + 1; number += number + apart < last ? apart : 1) {
-        uint64_t due = !chip_accepted(judged) ? judged : number < last ? items[number].place : (uint64_t)NONE_LEFT << 40;
-        uint64_t answer = reader_step(format, image, lent->length, lent->kinds, number);
+        uint64_t due = number < last ? items[number].place : past;
+        chip_answer answer = answer_of(reader_step(format, image, lent->length, lent->kinds, number));
         same_answer(names[STEP], answer, due);
         count(STEP, answer);
     }
-    same_answer(names[STEP], reader_step(format, image, lent->length, lent->kinds, SIZE_MAX), chip_accepted(judged) ? (uint64_t)NONE_LEFT << 40 : judged);
+    same_answer(names[STEP], answer_of(reader_step(format, image, lent->length, lent->kinds, SIZE_MAX)), past);
 }
 
-static void lists_and_steps(unsigned format, const struct lent *lent, struct pages pages, uint64_t judged) {
+static void lists_and_steps(unsigned format, const struct lent *lent, struct pages pages, chip_answer judged) {
     static Entry items[MOST], others[MOST];
     uint32_t items_due = chip_value(judged);
-    list(format, lent, pages, items_due + SPARE, items);
+    walk(format, lent, list(format, lent, pages, items_due + SPARE, items));
     list(format, lent, pages, items_due, others);
     if (items_due)
         list(format, lent, pages, items_due - 1, others);
@@ -199,11 +209,11 @@ static void lists_and_steps(unsigned format, const struct lent *lent, struct pag
 
 static void choose(const struct lent *firmware, const struct lent *eeprom, uint64_t due) {
     const uint8_t *a = at_either(firmware), *b = at_either(eeprom);
-    uint64_t answer = chip_board_choice(a, firmware->length, b, eeprom->length, firmware->kinds);
+    chip_answer answer = chip_board_choice(a, firmware->length, b, eeprom->length, firmware->kinds);
     unsigned call = chip_is_eeprom(answer) ? CHOICE_EEPROM : CHOICE_FIRMWARE;
     same_answer(names[call], answer, independent_board_choice(a, firmware->length, b, eeprom->length, firmware->kinds));
-    if (due != UNKNOWN && answer != due)
-        stop(names[call], "the pair was made for another answer", answer, due);
+    if (due != UNKNOWN && answer.bits != due)
+        stop(names[call], "the pair was made for another answer", answer.bits, due);
     count(call, answer);
 }
 
@@ -214,7 +224,7 @@ static void compare(unsigned what, struct lent images[2], struct pages pages, ui
         choose(&images[0], &images[1], due);
         return;
     }
-    uint64_t judged = judge(what == TINY ? TINY_JUDGE : BOARD_JUDGE, &images[0], due);
+    chip_answer judged = judge(what == TINY ? TINY_JUDGE : BOARD_JUDGE, &images[0], due);
     if (what == TINY)
         all_names(&images[0], pages);
     lists_and_steps(what, &images[0], pages, judged);

@@ -35,6 +35,7 @@ DUE = {
     "tiny-list": (0, *TINY.rules, 43),
     "board-list": (0, *BOARD.rules, 43),
     "step": (0, *TINY.rules, *BOARD.rules),
+    "walk": (0, *TINY.rules, *BOARD.rules),
 }
 
 

@@ -1,5 +1,6 @@
 /*
- * What tests/independent.rs exports: the calls of chip/chip.h, of tests/reader.h, and a whole walk, with the same arguments and answers.
+ * What tests/independent.rs exports: the calls of chip/chip.h, of tests/reader.h, and a whole walk, with the same arguments. They return the number that a
+ * chip_answer has.
  */
 #ifndef INDEPENDENT_H
 #define INDEPENDENT_H

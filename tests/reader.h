@@ -1,5 +1,5 @@
 /*
- * An entry of a lent list, and the functions of the crate reader_c that fill a list and walk, as C sees them.
+ * An entry of a lent list, and the functions of the crate reader_c that fill a list and walk, as C sees them. They return the number that a chip_answer has.
  */
 #ifndef READER_H
 #define READER_H
@@ -7,6 +7,13 @@
 #include <stdbool.h>
 #include <stddef.h>
 #include <stdint.h>
+
+#include "../chip/chip.h"
+
+/* the answer with this number */
+static inline chip_answer answer_of(uint64_t bits) {
+    return (chip_answer){bits};
+}
 
 typedef struct {
     uint64_t kind;
