@@ -157,7 +157,7 @@ CHIP_MUST_USE chip_answer chip_tiny_name(const uint8_t *image, size_t length, ui
 
 /* The number of the refusal; CHIP_ACCEPTED (0) where there is none. */
 CHIP_MUST_USE static inline unsigned chip_refusal(chip_answer answer) {
-    return (unsigned)(answer.bits >> 32 & 0xFF);
+    return answer.bits >> 32 & 0xFF;
 }
 
 /* Whether an answer is no refusal. */
@@ -167,12 +167,12 @@ CHIP_MUST_USE static inline bool chip_accepted(chip_answer answer) {
 
 /* The place of the refusal; 0 where there is none. */
 CHIP_MUST_USE static inline uint32_t chip_place(chip_answer answer) {
-    return chip_accepted(answer) ? 0 : (uint32_t)(answer.bits & UINT32_MAX);
+    return chip_accepted(answer) ? 0 : answer.bits & UINT32_MAX;
 }
 
 /* The count or the length; 0 where the call is refused. */
 CHIP_MUST_USE static inline uint32_t chip_value(chip_answer answer) {
-    return chip_accepted(answer) ? (uint32_t)(answer.bits & UINT32_MAX) : 0;
+    return chip_accepted(answer) ? answer.bits & UINT32_MAX : 0;
 }
 
 /* Whether the EEPROM image is chosen. */

@@ -21,7 +21,8 @@
 7. what the gate compares `tiny_answers`, `tiny_write`, `board_answers`, `board_list`, `board_write` and `choice_answers` with is what the
    references answer, and tests/independent.rs where it shows the same;
 8. the CRCs exported to C are those of zlib and of a plain loop, and read nothing past either end (tests/crcs.c);
-9. the papers' cases through C (tests/cases.c), the host program and its header (tests/upload_runs.py);
+9. the header of the functions for C and their library are as the header says (tests/header_runs.py), the papers' cases through C are answered as they must
+   be (tests/cases.c), and the host program does what it must (tests/upload_runs.py);
 10. the judges, the choice, the name, the list and the walk exported to C answer as tests/independent.rs for 110,000 images (tests/host_runs.py and
     tests/host.c).
 """
@@ -45,6 +46,7 @@ import tiny_images
 from building import ENVIRONMENT, build, exported, exporting, fail, independent
 from coverage import table
 from formats import BOARD, TINY, due, with_fewer
+from header_runs import try_header
 from host_runs import compare_host
 from upload_runs import try_upload
 
@@ -427,6 +429,7 @@ def main():
         columns = dict(zip(("tiny-reader", "board-reader", "tiny-writer", "board-writer"), run_jobs()))
         libraries = exported(begun)
         compare_crcs(folder, libraries, seed)
+        try_header(folder, libraries)
         try_upload(folder, libraries)
         table({**columns, **compare_host(folder, libraries, library, IMAGES, seed)}, (0, *TINY.rules, *BOARD.rules, *range(40, 47)))
 
