@@ -59,6 +59,9 @@ fn step<T>(i: usize, count: usize, item: impl Fn() -> Judged<T>) -> Judged<Step<
     if i < count { item().map(Step::Shown) } else { Ok(Step::NoneLeft) }
 }
 
+/// Numbers far past those of any item, string or record: the first of more than 32 bits, and the last of 64.
+const FAR: [usize; 2] = [1 << 32, usize::MAX];
+
 // ---- tiny images ----
 
 struct Referred<'a>(Reference<'a>);
@@ -107,11 +110,11 @@ fn answer_tiny(out: &mut impl Write, image: &[u8], kinds: u32) -> io::Result<()>
     let judged = judge_tiny(image, kinds);
     let (items, strings) = judged.as_ref().map_or((0, 0), |tiny| (tiny.count, tiny.string_count()));
     writeln!(out, "{}", ask(&judged, |tiny: &Tiny| Ok(format!("accepted {}", tiny.count))))?;
-    for i in 0..=items {
+    for i in (0..=items).chain(FAR) {
         writeln!(out, "item {i} {}", ask(&judged, |tiny| tiny.item(i)))?;
         writeln!(out, "step {i} {}", ask(&judged, |tiny| step(i, tiny.count, || tiny.item(i))))?;
     }
-    for i in 0..=strings + 1 {
+    for i in (0..=strings + 1).chain(FAR) {
         writeln!(out, "string {i} {}", ask(&judged, |tiny| tiny.string(i).map(Referred)))?;
     }
     for size in [0, 3, 4, 255] {
@@ -158,7 +161,7 @@ fn answer_board(out: &mut impl Write, image: &[u8], kinds: u32) -> io::Result<()
     let judged = judge_board(image, kinds);
     let count = judged.as_ref().map_or(0, |board| board.count);
     writeln!(out, "{}", ask(&judged, |board: &Board| Ok(format!("accepted {}", board.count))))?;
-    for i in (0..count.min(24)).chain([count]) {
+    for i in (0..count.min(24)).chain([count]).chain(FAR) {
         writeln!(out, "item {i} {}", ask(&judged, |board| board.item(i)))?;
         writeln!(out, "step {i} {}", ask(&judged, |board| step(i, board.count, || board.item(i))))?;
         answer_records(out, &format!("gpio {i}"), |r| ask(&judged, |board| board.gpio_record(i, r)))?;
@@ -166,17 +169,19 @@ fn answer_board(out: &mut impl Write, image: &[u8], kinds: u32) -> io::Result<()
     answer_records(out, "map", |r| ask(&judged, |board| board.map_record(r)))
 }
 
-/// Records from 0 to the first that is refused.
+/// Records from 0 to the first that is refused, and at numbers far past it.
 fn answer_records<'a>(
     out: &mut impl Write, call: &str, record: impl Fn(usize) -> Said<Vec<Field<'a>>>,
 ) -> io::Result<()> {
-    for r in 0.. {
-        match record(r) {
-            Said(Ok(fields)) => writeln!(out, "{call} {r}{}", Fields(fields))?,
-            Said(Err(refusal)) => return writeln!(out, "{call} {r} {}", Said::<&str>(Err(refusal))),
-        }
+    let mut answer = |r: usize| match record(r).0 {
+        Ok(fields) => writeln!(out, "{call} {r}{}", Fields(fields)).and(Ok(true)),
+        Err(refusal) => writeln!(out, "{call} {r} {}", Said::<&str>(Err(refusal))).and(Ok(false)),
+    };
+    let mut r = 0;
+    while answer(r)? {
+        r += 1;
     }
-    Ok(())
+    FAR.into_iter().try_for_each(|r| answer(r).and(Ok(())))
 }
 
 // ---- the records ----

@@ -6,13 +6,18 @@ import board_runs
 import tiny_images
 import tiny_runs
 
+# numbers far past those of any item, string or record: the first of more than 32 bits, and the last of 64
+FAR = (str(2 ** 32), str(2 ** 64 - 1))
+# what stands behind a call's name where it was asked: nothing for other numbers
+ASKED = ("", *(" " + number for number in FAR))
+
 
 def tiny_shown():
     """Each tag known and not known, references and strings as text and undecodable."""
     first = {tag: ("serial text", "serial undecodable") for tag in tiny_images.KNOWN}
     first.update({0x01: ("strings",), 0x11: ("flags",), 0x60: ("address",)})
     items = ("%s %02X %s" % (call, tag, what) for call in ("item", "step") for tag in tiny_images.KNOWN for what in ("unknown", *first[tag]))
-    return (*items, "step none", "string text", "string undecodable")
+    return (*items, "string text", *(said % asked for said in ("step%s none", "string%s undecodable") for asked in ASKED))
 
 
 def board_shown():
@@ -20,7 +25,7 @@ def board_shown():
     always = (board_images.EEPROM, board_images.MAP, board_images.BOARD, board_images.PROMSIG)
     shown = [(kind, "major") for kind in (*always, *board_images.LISTED)] + [(kind, "unknown") for kind in board_images.LISTED]
     items = ("%s %s %s" % (call, kind.hex().upper(), what) for call in ("item", "step") for kind, what in shown)
-    return (*items, "step none", "map MapLabel", "gpio GpioLabel")
+    return (*items, "map MapLabel", "gpio GpioLabel", *("step%s none" % asked for asked in ASKED))
 
 
 # a format: its name in those of programs; the full list, and another one; how many bytes a record has for its list and for its image's
@@ -35,10 +40,19 @@ BOARD = Format("board", board_images.FULL, lambda rnd: rnd.choice([0, board_imag
                ("item", "step", "map", "gpio"), board_shown())
 
 
+def outcome(call, first, second, kind, shown):
+    """An outcome of a call by number in words: the call, its numbers if they are far, the kind of an item, and what is shown first or the refusal."""
+    return " ".join(filter(None, (call, first, second and "record " + second, kind, shown)))
+
+
 def due(form):
-    """What the calls by number must have answered: what they show, each refusal of an image, and 42. (A step past the last says that none is left.)"""
-    refused = {"%s refused %d" % (call, number) for call in form.calls for number in (*form.rules, 42)}
-    return {*form.shown, *refused} - {"step refused 42"}
+    """What the calls by number must have answered: what they show, each refusal of an image, and 42, at numbers near and far. (A step past the last says that
+    none is left.)"""
+    calls = [call + asked for call in form.calls for asked in ASKED]
+    if "gpio" in form.calls:
+        calls += ["gpio%s record %s" % (asked, record) for asked in ASKED for record in FAR]
+    refused = {"%s refused %d" % (call, number) for call in calls for number in (*form.rules, 42)}
+    return {*form.shown, *refused} - {"step%s refused 42" % asked for asked in ASKED}
 
 
 def with_fewer(form, said):

@@ -12,7 +12,7 @@
 3. `tiny_list` and `board_list` list some of them as the references do;
 4. each refusal number from 1 to 11, and 42, 43 and 44, was among the answers for tiny images; from 20 to 33, and 42, for boards. Each tag
    and each structure was shown, known and where a list can lack it not known, and strings, map records and GPIO records; each of these calls
-   by number was refused with each number that it can be (formats.py, `due`);
+   by number was refused with each number that it can be, at numbers up to the count and at 2^32 and 2^64 - 1 (formats.py, `due`);
 5. every answer of `tiny_write` for as many requests as tiny images, and at least 20,000, is the answer of tests/reference/tiny.c; where a
    request was made for an answer, it gets that; each refusal number of the writer was among the answers, and no other. The same for
    `board_write`, a third as many requests as board images, and tests/reference/board_write.c;
@@ -45,7 +45,7 @@ import board_runs
 import tiny_images
 from building import ENVIRONMENT, build, exported, exporting, fail, independent
 from coverage import table
-from formats import BOARD, TINY, due, with_fewer
+from formats import BOARD, FAR, TINY, due, outcome, with_fewer
 from header_runs import try_header
 from host_runs import compare_host
 from upload_runs import try_upload
@@ -203,8 +203,10 @@ def shown(image):
     return "of %d bytes in target/different.bin" % len(image)
 
 
-# the call in a line of `tiny_answers` or `board_answers`, the kind of an item, and what is shown first or the refusal
-SHOWN = re.compile(rb"^(item|step|string|map|gpio)(?: \d+)+ (?:(?:tag|kind) (\w+) place \d+ length \d+ )?(refused \d+|serial \w+|\w+)", re.MULTILINE)
+# of a line of `tiny_answers` or `board_answers`: the call, its first and its second number if they are far, the kind of an item, and what is shown first or
+# the refusal
+SHOWN = re.compile(r"^(item|step|string|map|gpio) (?:({far})|\d+)(?: (?:({far})|\d+))? (?:(?:tag|kind) (\w+) place \d+ length \d+ )?"
+                   r"(refused \d+|serial \w+|\w+)".format(far="|".join(FAR)).encode(), re.MULTILINE)
 
 
 def compare(form, others, made, seed):
@@ -227,7 +229,7 @@ def compare(form, others, made, seed):
                 counts[int(number)] = counts.get(int(number), 0) + 1
             compared += 1
             known += wanted != "?"
-    return counts, compared, known, {b" ".join(filter(None, part)).decode(): times for part, times in parts.items()}
+    return counts, compared, known, {outcome(*(word.decode() for word in part)): times for part, times in parts.items()}
 
 
 def listings(form, reference, made):

@@ -359,7 +359,7 @@ void judge(struct board *b, const uint8_t *image, size_t lent, uint32_t list) {
 
 /* ---- items and records by number; the image's own refusal comes first ---- */
 
-static struct answer item_by_number(const struct board *b, unsigned i, const struct span **item) {
+static struct answer item_by_number(const struct board *b, size_t i, const struct span **item) {
     if (b->judged.refusal)
         return b->judged;
     if (i >= b->count)
@@ -369,14 +369,14 @@ static struct answer item_by_number(const struct board *b, unsigned i, const str
 }
 
 /* Record k of item i, if that is a known structure of a kind. */
-static struct answer record_by_number(const struct board *b, unsigned kind, unsigned i, unsigned k, uint32_t *record) {
+static struct answer record_by_number(const struct board *b, unsigned kind, size_t i, size_t k, uint32_t *record) {
     const struct span *item;
     struct answer found = item_by_number(b, i, &item);
     if (found.refusal)
         return found;
     if (!is(item, kind) || !is_known(b, item) || k >= record_count(item))
         return refuse(42, 0);
-    *record = record_place(item, k);
+    *record = record_place(item, (uint32_t)k);
     return accept(0);
 }
 
@@ -510,7 +510,7 @@ static bool print_refusal(struct answer answer) {
 }
 
 /* what is shown of an item, as asked by its number */
-static void answer_shown(const struct board *b, unsigned i) {
+static void answer_shown(const struct board *b, size_t i) {
     const struct span *s;
     if (print_refusal(item_by_number(b, i, &s)))
         return;
@@ -529,31 +529,44 @@ static void answer_shown(const struct board *b, unsigned i) {
 }
 
 /* item i, and step i of a walk: "step i (from 0) shows item i as asked by number .., and the step at the count says that none is left" */
-static void answer_item(const struct board *b, unsigned i) {
-    printf("item %u", i);
+static void answer_item(const struct board *b, size_t i) {
+    printf("item %zu", i);
     answer_shown(b, i);
-    printf("step %u", i);
-    if (!b->judged.refusal && i == b->judged.value)
+    printf("step %zu", i);
+    if (!b->judged.refusal && i >= b->judged.value)
         puts(" none left");
     else
         answer_shown(b, i);
 }
 
-/* the records of item i, up to the first that is refused */
-static void answer_records_of(const struct board *b, unsigned kind, unsigned i) {
-    bool refused = false;
+/* record k of item i; whether there is one */
+static bool answer_record(const struct board *b, unsigned kind, size_t i, size_t k) {
     uint32_t record;
-    for (unsigned k = 0; !refused; k++) {
-        if (kind == GPIO)
-            printf("gpio %u %u", i, k);
-        else
-            printf("map %u", k);
-        refused = print_refusal(record_by_number(b, kind, i, k, &record));
-        if (refused)
-            continue;
-        answer_fields(b, record, kinds[kind].record);
-        putchar('\n');
-    }
+    if (kind == GPIO)
+        printf("gpio %zu %zu", i, k);
+    else
+        printf("map %zu", k);
+    if (print_refusal(record_by_number(b, kind, i, k, &record)))
+        return false;
+    answer_fields(b, record, kinds[kind].record);
+    putchar('\n');
+    return true;
+}
+
+static const size_t far[2] = {(size_t)1 << 32, SIZE_MAX}; /* numbers that nothing has */
+
+/* the records of item i, up to the first that is refused, and at numbers far past it */
+static void answer_records_of(const struct board *b, unsigned kind, size_t i) {
+    for (size_t k = 0; answer_record(b, kind, i, k); k++)
+        ;
+    for (int k = 0; k < 2; k++)
+        answer_record(b, kind, i, far[k]);
+}
+
+/* item i, and its GPIO records */
+static void answer_whole_item(const struct board *b, size_t i) {
+    answer_item(b, i);
+    answer_records_of(b, GPIO, i);
 }
 
 static void answer_judge(const struct board *b) {
@@ -567,12 +580,11 @@ static void answer_judge(const struct board *b) {
 static void all_answers(const struct board *b) {
     unsigned count = b->judged.value; /* 0 of a refused image */
     answer_judge(b);
-    for (unsigned i = 0; i < count && i < ASKED; i++) {
-        answer_item(b, i);
-        answer_records_of(b, GPIO, i);
-    }
-    answer_item(b, count);
-    answer_records_of(b, GPIO, count);
+    for (unsigned i = 0; i < count && i < ASKED; i++)
+        answer_whole_item(b, i);
+    answer_whole_item(b, count);
+    for (int i = 0; i < 2; i++)
+        answer_whole_item(b, far[i]);
     answer_records_of(b, MAP, 1);
 }
 

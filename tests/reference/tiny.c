@@ -192,7 +192,7 @@ static struct answer judge(const uint8_t *image, size_t lent, unsigned list) {
 
 /* ---- strings, items, name: each judges the image first; a refused call leaves what it was lent alone ---- */
 
-static struct answer string_by_number(const uint8_t *image, size_t lent, unsigned list, unsigned number,
+static struct answer string_by_number(const uint8_t *image, size_t lent, unsigned list, size_t number,
                                       struct text *text) {
     struct answer judged = judge(image, lent, list);
     struct span pool;
@@ -215,7 +215,7 @@ static struct answer string_by_number(const uint8_t *image, size_t lent, unsigne
     return accept(0);
 }
 
-static struct answer item_by_number(const uint8_t *image, size_t lent, unsigned list, unsigned number,
+static struct answer item_by_number(const uint8_t *image, size_t lent, unsigned list, size_t number,
                                     struct item *item) {
     struct answer judged = judge(image, lent, list);
     struct span s = {.end = HEADER};
@@ -223,7 +223,7 @@ static struct answer item_by_number(const uint8_t *image, size_t lent, unsigned 
         return judged;
     if (number >= judged.value)
         return refuse(42, 0);
-    for (unsigned i = 0; i <= number; i++)
+    for (size_t i = 0; i <= number; i++)
         span_at(image, s.end, &s);
     memset(item, 0, sizeof *item);
     item->tag = s.tag;
@@ -454,7 +454,7 @@ static bool print_refusal(struct answer answer) {
 }
 
 /* what is shown of an item, as asked by its number */
-static void answer_shown(const uint8_t *image, size_t lent, unsigned list, unsigned i) {
+static void answer_shown(const uint8_t *image, size_t lent, unsigned list, size_t i) {
     struct item item;
     if (print_refusal(item_by_number(image, lent, list, i, &item)))
         return;
@@ -465,28 +465,45 @@ static void answer_shown(const uint8_t *image, size_t lent, unsigned list, unsig
         fputs("unknown", stdout);
 }
 
+/* item i, and step i of a walk: "step i (from 0) shows item i as asked by number .., and the step at the count says that none is left" */
+static void answer_item(const uint8_t *image, size_t lent, unsigned list, size_t i) {
+    struct answer judged = judge(image, lent, list);
+    printf("\nitem %zu ", i);
+    answer_shown(image, lent, list, i);
+    printf("\nstep %zu ", i);
+    if (!judged.refusal && i >= judged.value)
+        fputs("none left", stdout);
+    else
+        answer_shown(image, lent, list, i);
+}
+
+static void answer_string(const uint8_t *image, size_t lent, unsigned list, size_t i) {
+    struct text text;
+    printf("\nstring %zu ", i);
+    if (!print_refusal(string_by_number(image, lent, list, i, &text)))
+        answer_text("", &text);
+}
+
+/* the items and the strings, each up to its count and then at numbers far past it */
+static void answer_numbers(const uint8_t *image, size_t lent, unsigned list, struct answer judged) {
+    static const size_t far[2] = {(size_t)1 << 32, SIZE_MAX};
+    size_t strings = judged.refusal ? 0 : string_count(image, list);
+    for (size_t i = 0; i <= judged.value; i++)
+        answer_item(image, lent, list, i);
+    for (int i = 0; i < 2; i++)
+        answer_item(image, lent, list, far[i]);
+    for (size_t i = 0; i <= strings + 1; i++)
+        answer_string(image, lent, list, i);
+    for (int i = 0; i < 2; i++)
+        answer_string(image, lent, list, far[i]);
+}
+
 static void all_answers(const uint8_t *image, size_t lent, unsigned list) {
     static const unsigned sizes[4] = {0, 3, 4, 255};
     struct answer judged = judge(image, lent, list);
-    unsigned strings = judged.refusal ? 0 : string_count(image, list);
-    struct text text;
     if (!print_refusal(judged))
         printf("accepted %u", judged.value);
-    for (unsigned i = 0; i <= judged.value; i++) {
-        printf("\nitem %u ", i);
-        answer_shown(image, lent, list, i);
-        /* "step i (from 0) shows item i as asked by number .., and the step at the count says that none is left" */
-        printf("\nstep %u ", i);
-        if (!judged.refusal && i == judged.value)
-            fputs("none left", stdout);
-        else
-            answer_shown(image, lent, list, i);
-    }
-    for (unsigned i = 0; i <= strings + 1; i++) {
-        printf("\nstring %u ", i);
-        if (!print_refusal(string_by_number(image, lent, list, i, &text)))
-            answer_text("", &text);
-    }
+    answer_numbers(image, lent, list, judged);
     for (int i = 0; i < 4; i++) {
         uint8_t buffer[255];
         memset(buffer, 0xAA, sizeof buffer);

@@ -1,4 +1,6 @@
 // Items by number, and what each step of a walk shows.
+use super::far::FAR;
+use super::far::LAST;
 use super::records::put_gpio;
 use super::text::put_data;
 use super::text::put_refusal;
@@ -171,7 +173,7 @@ fn put_item(image: &[u8], kinds: Kinds, number: usize) {
     put_gpio(image, kinds, number);
 }
 
-// The items of the first numbers, at most 24 of them, and the item at the count.
+// The items of the first numbers, at most 24 of them, and those at the count and at two numbers far past it.
 pub fn put_items(image: &[u8], kinds: Kinds, count: usize) {
     let mut number = 0;
     while number < 24 {
@@ -181,4 +183,6 @@ pub fn put_items(image: &[u8], kinds: Kinds, count: usize) {
         number += 1;
     }
     put_item(image, kinds, count);
+    put_item(image, kinds, FAR);
+    put_item(image, kinds, LAST);
 }

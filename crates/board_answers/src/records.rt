@@ -1,4 +1,6 @@
 // Records by number.
+use super::far::FAR;
+use super::far::LAST;
 use super::text::put_refusal;
 use super::text::put_sixteen;
 use board::GpioRecord;
@@ -50,7 +52,7 @@ fn put_map_record(image: &[u8], kinds: Kinds, number: usize) -> bool {
 }
 
 // The records of the map, up to the first that is refused. An image has less than 65,536.
-pub fn put_map(image: &[u8], kinds: Kinds) {
+fn put_first_maps(image: &[u8], kinds: Kinds) {
     let mut number = 0;
     while number < 65536 {
         if put_map_record(image, kinds, number) {
@@ -59,6 +61,13 @@ pub fn put_map(image: &[u8], kinds: Kinds) {
             return;
         }
     }
+}
+
+// The records of the map, and what is answered at two numbers far past them.
+pub fn put_map(image: &[u8], kinds: Kinds) {
+    put_first_maps(image, kinds);
+    put_map_record(image, kinds, FAR);
+    put_map_record(image, kinds, LAST);
 }
 
 // The answer for a record of an item's GPIO data; whether there is one.
@@ -82,7 +91,7 @@ fn put_gpio_record(image: &[u8], kinds: Kinds, item: usize, number: usize) -> bo
 }
 
 // The records of an item, up to the first that is refused.
-pub fn put_gpio(image: &[u8], kinds: Kinds, item: usize) {
+fn put_first_gpios(image: &[u8], kinds: Kinds, item: usize) {
     let mut number = 0;
     while number < 65536 {
         if put_gpio_record(image, kinds, item, number) {
@@ -91,4 +100,11 @@ pub fn put_gpio(image: &[u8], kinds: Kinds, item: usize) {
             return;
         }
     }
+}
+
+// The records of an item, and what is answered at two numbers far past them.
+pub fn put_gpio(image: &[u8], kinds: Kinds, item: usize) {
+    put_first_gpios(image, kinds, item);
+    put_gpio_record(image, kinds, item, FAR);
+    put_gpio_record(image, kinds, item, LAST);
 }

@@ -1,4 +1,6 @@
 // Items by number, and what each step of a walk shows.
+use super::far::FAR;
+use super::far::LAST;
 use super::text::put_refusal;
 use super::text::put_text;
 use console::put;
@@ -135,7 +137,7 @@ fn put_item(image: &[u8], kinds: Kinds, number: usize) {
     put_step(image, kinds, number);
 }
 
-// The items from 0 to the count, and the steps of these numbers.
+// The items from 0 to the count and at two numbers far past it, and the steps of these numbers.
 pub fn put_items(image: &[u8], kinds: Kinds, count: usize) {
     let mut i = 0;
     while i < count {
@@ -143,4 +145,6 @@ pub fn put_items(image: &[u8], kinds: Kinds, count: usize) {
         i += 1;
     }
     put_item(image, kinds, count);
+    put_item(image, kinds, FAR);
+    put_item(image, kinds, LAST);
 }

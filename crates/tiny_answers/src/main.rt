@@ -12,12 +12,14 @@ use verdict::Judged;
 ghost use Prim.Native.Nat.{_≤_};
 ghost use lib.ListN.{length};
 
+mod far;
 mod items;
 mod names;
 mod strings;
 mod text;
 
-// All answers for one image: the judge's, every item up to the count, every string up to the string count and one past it, and the name.
+// All answers for one image: the judge's, every item up to the count, every string up to the string count and one past it, items and strings at numbers far
+// past these, and the name.
 fn put_answers(image: &[u8], kinds: Kinds) {
     let judgement = judge(image, kinds);
     match judgement {

@@ -1,4 +1,6 @@
 // Strings by number.
+use super::far::FAR;
+use super::far::LAST;
 use super::text::put_refusal;
 use super::text::put_text;
 use console::put;
@@ -33,7 +35,7 @@ fn count_of(image: &[u8], kinds: Kinds) -> usize {
     }
 }
 
-// The strings from 0 to the string count and one past it.
+// The strings from 0 to the string count, one past it, and at two numbers far past it.
 pub fn put_strings(image: &[u8], kinds: Kinds) {
     let count = count_of(image, kinds);
     let mut i = 0;
@@ -46,4 +48,6 @@ pub fn put_strings(image: &[u8], kinds: Kinds) {
     if i < 65536 {
         put_string(image, kinds, i + 1);
     }
+    put_string(image, kinds, FAR);
+    put_string(image, kinds, LAST);
 }

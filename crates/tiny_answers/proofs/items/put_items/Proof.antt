@@ -29,6 +29,12 @@ loop-again c = tt
 put-item-requires-2 : tie.Need-put-item-requires-2 Inv-loop μ-loop
 put-item-requires-2 c κs = omega arith
 
+put-item-requires-3 : tie.Need-put-item-requires-3 Inv-loop μ-loop
+put-item-requires-3 c κs = omega arith
+
+put-item-requires-4 : tie.Need-put-item-requires-4 Inv-loop μ-loop
+put-item-requires-4 c κs = omega arith
+
 returns : tie.Need-returns Inv-loop μ-loop
 returns c = search needs
 
@@ -44,4 +50,6 @@ put-items-spec =
     loop-less
     loop-again
     put-item-requires-2
+    put-item-requires-3
+    put-item-requires-4
     returns)

@@ -38,11 +38,14 @@ add-put-string c = omega arith
 put-string-requires-3 : tie.Need-put-string-requires-3 Inv-loop μ-loop
 put-string-requires-3 c κs = omega arith
 
+put-string-requires-4 : tie.Need-put-string-requires-4 Inv-loop μ-loop
+put-string-requires-4 c κs = omega arith
+
+put-string-requires-5 : tie.Need-put-string-requires-5 Inv-loop μ-loop
+put-string-requires-5 c κs = omega arith
+
 returns : tie.Need-returns Inv-loop μ-loop
 returns c = search needs
-
-returns-2 : tie.Need-returns-2 Inv-loop μ-loop
-returns-2 c = search needs
 
 pub put-strings-spec : {M : Type 1} → statement M
 put-strings-spec =
@@ -59,5 +62,6 @@ put-strings-spec =
     put-string-requires-2
     add-put-string
     put-string-requires-3
-    returns
-    returns-2)
+    put-string-requires-4
+    put-string-requires-5
+    returns)
