@@ -1,5 +1,6 @@
 // The lines of a listing.
 use super::fields::put_board;
+use super::fields::put_decimal_field;
 use super::fields::put_eeprom;
 use super::fields::put_fpga;
 use super::fields::put_gpio_record;
@@ -10,7 +11,6 @@ use super::fields::put_memory;
 use super::fields::put_prom_sig;
 use super::text::put_signature;
 use super::text::put_span;
-use super::words::put_rule;
 use board::Fields;
 use board::Item;
 use board::Known;
@@ -27,11 +27,11 @@ use chain::Found;
 use console::put;
 use console::put_decimal;
 use console::put_number;
-use console::put_refused;
+use console::put_place;
+use console::put_refusal;
 use kinds::Kinds;
 use octets::le32_at;
 use verdict::Judged;
-use verdict::Refusal;
 
 // The line of a record.
 fn put_record(which: Records, image: &[u8], number: usize, place: u32) {
@@ -43,7 +43,7 @@ fn put_record(which: Records, image: &[u8], number: usize, place: u32) {
 
 // The records of the structure at a place: how many, and a line for each. (All of an accepted image lie below 65,536.)
 fn put_records(which: Records, image: &[u8], at: u32, count: usize) {
-    put_number(b"records", count);
+    put_decimal_field(b"records", count);
     let mut number = 0;
     while number < count {
         let Found::At(place) = record_place(which, image, at, number) else {
@@ -79,7 +79,7 @@ fn put_fields(image: &[u8], at: u32, fields: Fields) {
     }
 }
 
-// What a known structure says: its version, its Length and its fields.
+// What a known structure says: its version and its Length, and then its fields.
 fn put_known(image: &[u8], at: u32, known: Known) {
     put(b" ");
     put_decimal(known.major as usize);
@@ -90,9 +90,9 @@ fn put_known(image: &[u8], at: u32, known: Known) {
     put_fields(image, at, fields);
 }
 
-// The line of an item.
+// The lines of an item.
 fn put_item(image: &[u8], at: u32, shown: ShownItem) {
-    put_decimal(shown.place);
+    put_place(shown.place);
     put(b" ");
     put_signature(shown.signature);
     let item = shown.item;
@@ -116,13 +116,6 @@ fn put_items(image: &[u8], kinds: Kinds) {
     }
 }
 
-// The line of a refusal.
-fn put_refusal(refusal: Refusal) {
-    put_refused(refusal.number, refusal.place);
-    put_rule(refusal.number);
-    put(b"\n");
-}
-
 // The listing of an image.
 pub fn list(image: &[u8]) {
     let kinds = Kinds::full_list();
@@ -136,6 +129,9 @@ pub fn list(image: &[u8]) {
             put(b"\n");
             put_items(image, kinds);
         }
-        Judged::Refused(refusal) => put_refusal(refusal),
+        Judged::Refused(refusal) => {
+            put_refusal(refusal);
+            put(b"\n");
+        }
     }
 }

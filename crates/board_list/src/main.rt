@@ -3,10 +3,10 @@ use console::at_end;
 use console::complain;
 use libc::STDIN_FILENO;
 
+mod codes;
 mod fields;
 mod lines;
 mod text;
-mod words;
 
 // Over 65,536 bytes are refused whatever they are: so 65,537 bytes are read, and no more.
 fn main() {

@@ -1,17 +1,25 @@
 // Pieces of text on standard output.
 use console::put;
 use console::put_number;
+use console::put_place;
 use console::put_quoted;
 use octets::Eight;
 use octets::Sixteen;
 use octets::Span;
 use octets::byte_at;
 
-// What follows the fields, by place and length.
-pub fn put_span(word: &[u8], span: Span) {
-    put(b" ");
+// The beginning of the line of a field: two spaces and its name.
+pub fn put_field(word: &[u8]) {
+    put(b"\n  ");
     put(word);
-    put_number(b"at", span.place);
+    put(b" ");
+}
+
+// The line of what follows the fields, by place and length.
+pub fn put_span(word: &[u8], span: Span) {
+    put_field(word);
+    put(b"at ");
+    put_place(span.place);
     put_number(b"length", span.length);
 }
 
@@ -86,11 +94,9 @@ fn array_of(x: Sixteen) -> [u8; 16] {
     ]
 }
 
-// A word, and a name.
+// The line of a name.
 pub fn put_name(word: &[u8], name: Sixteen) {
-    put(b" ");
-    put(word);
-    put(b" ");
+    put_field(word);
     let bytes = array_of(name);
     put_text(&bytes, trimmed(&bytes));
 }

@@ -4,12 +4,15 @@ use libc::STDIN_FILENO;
 use libc::STDOUT_FILENO;
 use octets::Six;
 use octets::label::is_text;
+use verdict::Refusal;
+use words::put_words;
 ghost use mathlib.Core.Path.{_≡_};
 ghost use Prim.Native.Nat.{_≤_};
 ghost use lib.ListN.{length};
 ghost use Rattle.console.specs.Digit.{hexDigit};
 
 pub mod request;
+pub mod words;
 pub mod written;
 
 // Bytes as they are.
@@ -127,13 +130,33 @@ pub fn put_address(six: Six) {
     put_hex(six.b5);
 }
 
-// The beginning of the line of a refusal in a listing.
-pub fn put_refused(number: u8, place: usize) {
-    put(b"refused ");
-    put_decimal(number as usize);
-    put(b" at ");
+// A hexadecimal number, without zeros in front.
+pub fn put_short_hex(n: usize) {
+    let mut unit = 0x1000_0000_0000_0000;
+    while 0 < unit {
+        if unit <= n || unit == 1 {
+            put_character(digit((n / unit % 16) as u8));
+        }
+        unit /= 16;
+    }
+}
+
+// A place: decimal, and hexadecimal in parentheses.
+pub fn put_place(place: usize) {
     put_decimal(place);
+    put(b" (");
+    put_short_hex(place);
+    put(b"h)");
+}
+
+// A refusal: its number, its place, and what the number says.
+pub fn put_refusal(refusal: Refusal) {
+    put(b"refused ");
+    put_decimal(refusal.number as usize);
+    put(b" at ");
+    put_place(refusal.place);
     put(b": ");
+    put_words(refusal.number);
 }
 
 // Why a program does nothing, on standard error.

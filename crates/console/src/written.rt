@@ -1,6 +1,7 @@
 // What a writer answers, with what its buffer then holds, as a line.
 use super::put;
 use super::put_decimal;
+use super::put_refusal;
 use super::put_spaced;
 use verdict::Refusal;
 use verdict::WriteAnswer;
@@ -8,7 +9,7 @@ use verdict::WriteAnswer;
 // The bytes of the buffer that no image takes, if there are any; and the end of the line.
 fn put_rest(rest: &[u8]) {
     if 0 < rest.len() {
-        put(b" rest");
+        put(b"; rest");
         put_spaced(rest);
     }
     put(b"\n");
@@ -25,11 +26,8 @@ fn put_image(n: usize, buffer: &[u8]) {
     }
 }
 
-fn put_refusal(refusal: Refusal, buffer: &[u8]) {
-    put(b"refused ");
-    put_decimal(refusal.number as usize);
-    put(b" at ");
-    put_decimal(refusal.place);
+fn put_refused(refusal: Refusal, buffer: &[u8]) {
+    put_refusal(refusal);
     put_rest(buffer);
 }
 
@@ -37,6 +35,6 @@ fn put_refusal(refusal: Refusal, buffer: &[u8]) {
 pub fn put_written(answer: WriteAnswer, buffer: &[u8]) {
     match answer {
         WriteAnswer::Length(n) => put_image(n, buffer),
-        WriteAnswer::Refused(refusal) => put_refusal(refusal, buffer),
+        WriteAnswer::Refused(refusal) => put_refused(refusal, buffer),
     }
 }

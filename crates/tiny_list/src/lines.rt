@@ -3,12 +3,11 @@ use super::fields::put_batch;
 use super::fields::put_identity;
 use super::fields::put_reference;
 use super::text::put_text;
-use super::words::put_rule;
 use console::put;
 use console::put_address;
 use console::put_decimal;
 use console::put_hex;
-use console::put_refused;
+use console::put_refusal;
 use kinds::Kinds;
 use tiny::Item;
 use tiny::PoolShown;
@@ -21,7 +20,6 @@ use tiny_layout::string_at;
 use tiny_rules::judge;
 use tiny_rules::pool_of;
 use verdict::Judged;
-use verdict::Refusal;
 
 // The strings of a pool, a line for each.
 fn put_strings(image: &[u8], pool: Pool) {
@@ -56,6 +54,7 @@ fn put_fields(image: &[u8], pool: Pool, length: usize, item: Item) {
         Item::Flags(flags) => {
             put(b"flags ");
             put_hex(flags);
+            put(b"h");
         }
         Item::Address(six) => {
             put(b"address ");
@@ -95,13 +94,6 @@ fn put_items(image: &[u8], kinds: Kinds) {
     }
 }
 
-// The line of a refusal.
-fn put_refusal(refusal: Refusal) {
-    put_refused(refusal.number, refusal.place);
-    put_rule(refusal.number);
-    put(b"\n");
-}
-
 // The listing of an image.
 pub fn list(image: &[u8]) {
     let kinds = Kinds::full_list();
@@ -115,6 +107,9 @@ pub fn list(image: &[u8]) {
             put(b"\n");
             put_items(image, kinds);
         }
-        Judged::Refused(refusal) => put_refusal(refusal),
+        Judged::Refused(refusal) => {
+            put_refusal(refusal);
+            put(b"\n");
+        }
     }
 }

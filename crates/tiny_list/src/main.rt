@@ -6,7 +6,6 @@ use libc::STDIN_FILENO;
 mod fields;
 mod lines;
 mod text;
-mod words;
 
 // A tiny image has at most 255 bytes, and what is lent past them is not looked at: so 256 bytes are read, and no more.
 fn main() {

@@ -11,11 +11,11 @@ Inv-loop which image at count number₀ number = Unit {0}
 abbrev μ-loop : tie.MeasureT-loop
 μ-loop which image at count number₀ number = count - number
 
-slice-aggregate-put-number : tie.Need-slice-aggregate-put-number Inv-loop μ-loop
-slice-aggregate-put-number c = search needs
+slice-aggregate-put-decimal-field : tie.Need-slice-aggregate-put-decimal-field Inv-loop μ-loop
+slice-aggregate-put-decimal-field c = search needs
 
-put-number-requires : tie.Need-put-number-requires Inv-loop μ-loop
-put-number-requires c κs = omega arith
+put-decimal-field-requires : tie.Need-put-decimal-field-requires Inv-loop μ-loop
+put-decimal-field-requires c κs = omega arith
 
 loop-holds : tie.Need-loop-holds Inv-loop μ-loop
 loop-holds c = tt
@@ -59,8 +59,8 @@ put-records-spec =
     (tie.spec
     Inv-loop
     μ-loop
-    slice-aggregate-put-number
-    put-number-requires
+    slice-aggregate-put-decimal-field
+    put-decimal-field-requires
     loop-holds
     record-place-requires
     enum-known-place
