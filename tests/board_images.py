@@ -1202,6 +1202,15 @@ def sample_images():
     return out
 
 
+def coded_images():
+    """An image for each HashType; each value of the other codes is among them."""
+    for n, hash_type in enumerate((*HASHES, SIGNED + 1, SIGNED + 2, SIGNED + 3)):
+        fpga, gpio = bytes([n % 5]) + bytes(15), bytes(16) + gpio_record(labelled(b"lamp"), 0, 0, 0, 1, n % 5)
+        sig = le(hash_type, 2) + bytes(14) + bytes(HASHES[hash_type % SIGNED])
+        board = plain(1, [structure(FPGA, fpga), structure(GPIO, gpio), structure(PROMSIG, sig)], speed=n % 4)
+        yield board.image((board.at(2) + 0x4C, bytes([n % 2])))
+
+
 def record(mask, image):
     """A record of a run for `board answers`."""
     return le(mask, 4) + le(len(image), 4) + image

@@ -22,8 +22,10 @@
    references answer, and tests/independent.rs where it shows the same;
 8. the CRCs exported to C are those of zlib and of a plain loop, and read nothing past either end (tests/crcs.c);
 9. the header of the functions for C and their library are as the header says (tests/header_runs.py), the papers' cases through C are answered as they must
-   be (tests/cases.c), and the host program does what it must (tests/upload_runs.py);
-10. the judges, the choice, the name, the list and the walk exported to C answer as tests/independent.rs for 110,000 images (tests/host_runs.py and
+   be (tests/cases.c), and the command `chip` does what it must (tests/chip_runs.py, tests/upload_runs.py, tests/install_runs.py);
+10. the words of each refusal are the same in chip/chip.h, in the programs, in docs/LISTING.md and in the references (tests/words.py), and codes
+    are listed with what they mean there;
+11. the judges, the choice, the name, the list and the walk exported to C answer as tests/independent.rs for 110,000 images (tests/host_runs.py and
     tests/host.c).
 """
 import collections
@@ -49,6 +51,7 @@ from formats import BOARD, FAR, TINY, due, outcome, with_fewer
 from header_runs import try_header
 from host_runs import compare_host
 from upload_runs import try_upload
+from words import meanings, same_words
 
 LISTED = 600
 LENT = 3000  # of each format
@@ -75,6 +78,18 @@ def samples(references):
             if output(program, *words, given=image) != stored:
                 fail("samples/%s.bin: %s does not write samples/%s.txt" % (name, program, name))
     return len(names)
+
+
+def codes(reference):
+    """Each value of each code is listed with what it means in docs/LISTING.md, by both listers of boards."""
+    documented, images = meanings("docs/LISTING.md"), list(board_images.coded_images())
+    fields = "|".join({meaning.split()[0] for meaning in documented})
+    for program, words in ((os.path.join(BIN, "board_list"), []), (reference, ["list"])):
+        listed = b"".join(output(program, *words, given=image) for image in images).decode()
+        found = set(re.findall(r"\b((?:%s) .*)$" % fields, listed, re.MULTILINE))
+        if found != documented:
+            fail("%s and docs/LISTING.md have other meanings of codes: %s" % (program, sorted(found ^ documented)))
+    return len(documented)
 
 
 def complaint(program, given):
@@ -377,7 +392,9 @@ def compare_choices(reference, number, seed):
 
 
 def fixed(references, others):
-    """What needs no images made: samples, stored answers, input that is too long or cannot be read."""
+    """What needs no images made: the words of refusals, samples, stored answers, input that is too long or cannot be read."""
+    print("tests: the words of refusals are the same in each of %d places, %d of them compared" % same_words())
+    print("tests: %d values of codes listed with what they mean" % codes(references[BOARD]))
     print("tests: %d samples listed as stored" % samples(references))
     stored_answers(references, others)
     other_input()

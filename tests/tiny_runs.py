@@ -15,16 +15,18 @@ import random
 import tiny_images
 from tiny_images import IDENTITY, KNOWN, UNKNOWN_LONG, UNKNOWN_SHORT, cycle, filler, finish, good_items, identity, item, known, pack, placed
 from tiny_images import small_pool, strings_of
+from words import in_tables
 
 MOST = 1024  # bytes in a run, in a pool and in a buffer
 LONGEST = 255
 ORDER = (46, 40, 41, 7, 9, 10, 11)  # which refusal is given if several apply
+WORDS = in_tables("docs/LISTING.md")
 
 
 # ---- answers ----
 
 def rest(room, taken=0):
-    return " rest" + " AA" * (room - taken) if room > taken else ""
+    return "; rest" + " AA" * (room - taken) if room > taken else ""
 
 
 def written(room, image):
@@ -32,7 +34,7 @@ def written(room, image):
 
 
 def refused(room, number, place):
-    return "refused %d at %d%s" % (number, place, rest(room))
+    return "refused %d at %d (%Xh): %s%s" % (number, place, place, WORDS[number], rest(room))
 
 
 # ---- building ----
@@ -486,10 +488,12 @@ def paper_cases(_):
         yield 4, b"", None, "length 4: 56 02 04 6F"
         yield 255, bytes.fromhex("100100"), top1, "length 12: 56 02 0C 10 00 01 04 74 6F 70 B1 57" + rest(255, 12)
         yield 6, bytes.fromhex("11010F"), None, "length 6: 56 02 06 11 0F 8F"
-        yield 14, bytes.fromhex("100100"), top1, "length 12: 56 02 0C 10 00 01 04 74 6F 70 B1 57 rest AA AA"
-        yield 3, bytes.fromhex("100100"), None, "refused 41 at 0 rest AA AA AA"
-        yield 0, bytes.fromhex("1100"), None, "refused 46 at 0"
-        yield 8, bytes.fromhex("100100"), None, "refused 10 at 4 rest AA AA AA AA AA AA AA AA"
+        yield 14, bytes.fromhex("100100"), top1, "length 12: 56 02 0C 10 00 01 04 74 6F 70 B1 57; rest AA AA"
+        yield 3, bytes.fromhex("100100"), None, "refused 41 at 0 (0h): the lent buffer is too short for the image; rest AA AA AA"
+        yield 0, bytes.fromhex("1100"), None, (
+            "refused 46 at 0 (0h): an item's length is not its tag's, an item is a pool, or an item or record is cut short")
+        yield 8, bytes.fromhex("100100"), None, (
+            "refused 10 at 4 (4h): an index is not below the string count; rest AA AA AA AA AA AA AA AA")
 
 
 # a group and how many requests it gives in each turn

@@ -73,6 +73,18 @@ static const struct kind kinds[KINDS] = {
     [VIDEO] = {"$Video$", 16, 0x10, 0x20, "VideoData", 0, 0, {{0}}, {{0}}},
 };
 
+/* what codes mean, from 0 on; a signed hash has HashType's bit 15 set */
+static const struct code {
+    unsigned kind;
+    const char *field, *meanings[6];
+} codes[] = {
+    {MAP, "Speed", {"Unknown", "100KHz (Standard speed)", "400KHz (Fast speed)", "3.4MHz (High speed)"}},
+    {BOARD, "BoardType", {"Main board", "Plug-in board"}},
+    {PROMSIG, "HashType", {"None", "MD5", "SHA-1", "SHA-256", "SHA-384", "SHA-512"}},
+    {FPGA, "DataType", {"Unknown", "UART", "I2C", "SPI", "PCI"}},
+    {GPIO, "DataType", {"IO", "MMIO", "PCI", "PCIe", "PAD Offset"}},
+};
+
 /* ---- the parts of an image ---- */
 
 /* a number of one to four bytes, low byte first */
@@ -414,7 +426,7 @@ static void list_value(const struct board *b, uint32_t start, const struct field
         printf("%u", number(b, at, f->size));
         break;
     case HEX:
-        printf("%0*X", (int)(2 * f->size), number(b, at, f->size));
+        printf("%0*Xh", (int)(2 * f->size), number(b, at, f->size));
         break;
     case NAME: case LABELLED:
         putchar('"');
@@ -428,56 +440,93 @@ static void list_value(const struct board *b, uint32_t start, const struct field
     }
 }
 
+/* what the value of a field means, if it is a code; a code of an accepted image has a meaning, by rules 29 to 31 and 33 */
+static void list_meaning(const struct board *b, const struct span *s, uint32_t start, const struct field *f) {
+    for (unsigned i = 0; i < sizeof codes / sizeof *codes; i++) {
+        if (!is(s, codes[i].kind) || strcmp(f->name, codes[i].field) != 0)
+            continue;
+        uint32_t value = number(b, start + f->at, f->size);
+        printf(" = %s%s", codes[i].meanings[value & 0x7FFF], value & 0x8000 ? ", signed" : "");
+    }
+}
+
 static void list_record(const struct board *b, const struct span *s, unsigned k) {
     const struct field *f = s->kind->record;
-    printf("  %u ", k);
+    printf("    %u ", k);
     list_value(b, record_place(s, k), f); /* the label, without its name */
     for (f++; f->name; f++) {
         printf(" %s ", f->name);
         list_value(b, record_place(s, k), f);
+        list_meaning(b, s, record_place(s, k), f);
     }
     putchar('\n');
 }
 
+static void print_place(uint32_t place) {
+    printf("%u (%Xh)", place, place);
+}
+
 static void list_item(const struct board *b, const struct span *s) {
-    printf("%u ", s->place);
+    print_place(s->place);
+    putchar(' ');
     print_escaped(b->image + s->place, without_zeros(b->image + s->place, 8), false);
     if (!is_known(b, s)) {
         printf(" unknown length %u\n", s->length - HEAD);
         return;
     }
-    printf(" %u.%u Length %u", major_of(b, s), minor_of(b, s), s->length);
+    printf(" %u.%u Length %u\n", major_of(b, s), minor_of(b, s), s->length);
     for (const struct field *f = s->kind->fields; f->name; f++) {
-        printf(" %s ", f->name);
+        printf("  %s ", f->name);
         list_value(b, s->place, f);
+        list_meaning(b, s, s->place, f);
+        putchar('\n');
     }
-    if (s->kind->record_size)
-        printf(" %s %u", s->kind->data, record_count(s));
-    else if (s->kind->data)
-        printf(" %s at %u length %u", s->kind->data, s->place + s->kind->fixed, s->length - s->kind->fixed);
-    putchar('\n');
+    if (s->kind->record_size) {
+        printf("  %s %u\n", s->kind->data, record_count(s));
+    } else if (s->kind->data) {
+        printf("  %s at ", s->kind->data);
+        print_place(s->place + s->kind->fixed);
+        printf(" length %u\n", s->length - s->kind->fixed);
+    }
     for (unsigned k = 0; k < record_count(s); k++)
         list_record(b, s, k);
 }
 
+/* what the number of a refusal says: those of the judge and of the writer */
+static const char *words_of(unsigned number) {
+    switch (number) {
+    case 20: return "fewer than 48 bytes, or more than 65536";
+    case 21: return "the header has another signature, VerMajor or Length";
+    case 22: return "StructLen is below 48 or above the number of bytes";
+    case 23: return "no structure where one is due";
+    case 24: return "a byte between structures is not zero";
+    case 25: return "a structure is missing, or in the wrong order";
+    case 26: return "the map, the board or the signature structure has a wrong VerMajor or Length";
+    case 27: return "Crc32 or CrcLength is not what it should be";
+    case 28: return "the board structure ends past 4096";
+    case 29: return "HashType is not one that is known, or Length does not fit it";
+    case 30: return "a field of the map is wrong";
+    case 31: return "BoardType is above 1";
+    case 32: return "a reserved byte is not zero";
+    case 33: return "a structure is too short, or a field of it is wrong";
+    case 40: return "the image would have over 255 bytes, or as a board over 65536";
+    case 41: return "the lent buffer is too short for the image";
+    case 45: return "the further bytes have a $PromSig, which no writer makes";
+    case 46: return "an item's length is not its tag's, an item is a pool, or an item or record is cut short";
+    default: return "";
+    }
+}
+
+void print_refused(struct answer refused) {
+    printf("refused %u at ", refused.refusal);
+    print_place(refused.place);
+    printf(": %s", words_of(refused.refusal));
+}
+
 static void list_image(const struct board *b) {
-    static const char *const words[14] = {
-        "fewer than 48 bytes, or more than 65536",
-        "the header has another signature, VerMajor or Length",
-        "StructLen is below 48 or above the number of bytes",
-        "no structure where one is due",
-        "a byte between structures is not zero",
-        "a structure is missing, or in the wrong order",
-        "the map, the board or the signature structure has a wrong VerMajor or Length",
-        "Crc32 or CrcLength is not what it should be",
-        "the board structure ends past 4096",
-        "HashType is not one that is known, or Length does not fit it",
-        "a field of the map is wrong",
-        "BoardType is above 1",
-        "a reserved byte is not zero",
-        "a structure is too short, or a field of it is wrong"};
     if (b->judged.refusal) {
-        printf("refused %u at %u: %s\n", b->judged.refusal, b->judged.place, words[b->judged.refusal - 20]);
+        print_refused(b->judged);
+        putchar('\n');
         return;
     }
     printf("board 1 items %u length %u version %u\n", b->count, b->length, number(b, 0x1C, 4));

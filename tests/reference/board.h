@@ -64,6 +64,9 @@ uint32_t summed_length(const struct board *b);
 /* CRC-32 of IEEE 802.3 over the first bytes, the four of Crc32 counted as zero */
 uint32_t crc32(const struct board *b, uint32_t count);
 
+/* a refusal in words, without a newline */
+void print_refused(struct answer refused);
+
 /* a number of four bytes, low byte first */
 uint32_t four(const uint8_t *bytes);
 

@@ -210,13 +210,13 @@ static void answer_request(const struct request *request) {
     memset(buffer.at, 0xAA, buffer.length);
     struct answer said = write_image(given, buffer);
     if (said.refusal) {
-        printf("refused %u at %u", said.refusal, said.place);
+        print_refused(said);
     } else {
         printf("length %u:", said.value);
         print_spaced(buffer.at, said.value);
     }
     if (buffer.length > said.value) {
-        fputs(" rest", stdout);
+        fputs("; rest", stdout);
         print_spaced(buffer.at + said.value, buffer.length - said.value);
     }
     putchar('\n');

@@ -356,7 +356,7 @@ static void print_text(const char *before, const struct text *text) {
 static void list_fields(const struct item *item) {
     const uint8_t *a = item->address;
     if (item->tag == 0x11)
-        printf("flags %02X", item->flags);
+        printf("flags %02Xh", item->flags);
     if (item->tag == 0x60)
         printf("address %02X:%02X:%02X:%02X:%02X:%02X", a[0], a[1], a[2], a[3], a[4], a[5]);
     if (index_count(item->tag) == 2)
@@ -372,21 +372,39 @@ static void list_fields(const struct item *item) {
     }
 }
 
+/* what the number of a refusal says: those of the judge and of the writer */
+static const char *words_of(unsigned number) {
+    switch (number) {
+    case 1: return "fewer than 4 bytes";
+    case 2: return "the first byte is not 56h";
+    case 3: return "the version is not 2";
+    case 4: return "the length byte is below 4 or above the number of bytes";
+    case 5: return "the check byte is not the CRC-8 of the bytes before it";
+    case 6: return "an item, or its length byte, does not end before the check byte";
+    case 7: return "the long tag 00";
+    case 8: return "the pool is not the last item";
+    case 9: return "a pool byte is no character, or the last one has no end mark";
+    case 10: return "an index is not below the string count";
+    case 11: return "a major, minor, pair of characters or batch is out of range";
+    case 40: return "the image would have over 255 bytes, or as a board over 65536";
+    case 41: return "the lent buffer is too short for the image";
+    case 46: return "an item's length is not its tag's, an item is a pool, or an item or record is cut short";
+    default: return "";
+    }
+}
+
+/* a refusal in words, without a newline */
+static void print_refused(struct answer refused) {
+    printf("refused %u at %u (%Xh): %s", refused.refusal, refused.place, refused.place, words_of(refused.refusal));
+}
+
 static void list_image(const uint8_t *image, size_t lent) {
-    static const char *const words[12] = {
-        "", "fewer than 4 bytes", "the first byte is not 56h", "the version is not 2",
-        "the length byte is below 4 or above the number of bytes",
-        "the check byte is not the CRC-8 of the bytes before it",
-        "an item, or its length byte, does not end before the check byte",
-        "the long tag 00", "the pool is not the last item",
-        "a pool byte is no character, or the last one has no end mark",
-        "an index is not below the string count",
-        "a major, minor, pair of characters or batch is out of range"};
     struct answer judged = judge(image, lent, FULL_LIST);
     struct item item;
     struct text text;
     if (judged.refusal) {
-        printf("refused %u at %u: %s\n", judged.refusal, judged.place, words[judged.refusal]);
+        print_refused(judged);
+        putchar('\n');
         return;
     }
     printf("tiny %d items %u length %u\n", VERSION, judged.value, image[2]);
@@ -643,13 +661,13 @@ static bool answer_request(const struct request *request) {
         struct answer written = write_image(run, request->run.length, pool, request->has_pool ? request->pool.length : 0,
                                             buffer, request->room);
         if (written.refusal) {
-            printf("refused %u at %u", written.refusal, written.place);
+            print_refused(written);
         } else {
             printf("length %u:", written.value);
             print_spaced(buffer, written.value);
         }
         if (request->room > written.value) {
-            fputs(" rest", stdout);
+            fputs("; rest", stdout);
             print_spaced(buffer + written.value, request->room - written.value);
         }
         putchar('\n');

@@ -26,7 +26,8 @@ fn put_image(n: usize, buffer: &[u8]) {
     }
 }
 
-fn put_refused(refusal: Refusal, buffer: &[u8]) {
+// A refusal, and what all of the buffer holds.
+fn put_no_image(refusal: Refusal, buffer: &[u8]) {
     put_refusal(refusal);
     put_rest(buffer);
 }
@@ -35,6 +36,6 @@ fn put_refused(refusal: Refusal, buffer: &[u8]) {
 pub fn put_written(answer: WriteAnswer, buffer: &[u8]) {
     match answer {
         WriteAnswer::Length(n) => put_image(n, buffer),
-        WriteAnswer::Refused(refusal) => put_refused(refusal, buffer),
+        WriteAnswer::Refused(refusal) => put_no_image(refusal, buffer),
     }
 }
