@@ -40,17 +40,21 @@ def in_rattle(path):
     return by_number(path, ((int(number), said) for number, said in re.findall(r'\b(\d+) => put\(\s*b"([^"]*)",?\s*\)', text_of(path))))
 
 
+def rows_of(path, heading):
+    """The two cells of each row, in all tables with this heading."""
+    tables = re.findall(r"^\| %s \|\n\|[-|]+\|\n((?:\|.*\|\n)+)" % re.escape(heading), text_of(path), re.MULTILINE)
+    return [line[2:-2].split(" | ") for rows in tables for line in rows.splitlines()]
+
+
 def in_tables(path):
-    """The rows of the tables whose columns are `number` and `words`."""
-    tables = re.findall(r"^\| number \| words \|\n\|[-|]+\|\n((?:\|.*\|\n?)+)", text_of(path), re.MULTILINE)
-    rows = re.findall(r"^\| (\d+) \| (.*) \|$", "\n".join(tables), re.MULTILINE)
-    return by_number(path, ((int(number), said) for number, said in rows))
+    """The tables whose columns are `number` and `words`."""
+    return by_number(path, ((int(number), said) for number, said in rows_of(path, "number | words")))
 
 
 def meanings(path):
-    """The rows of the table whose columns are `code` and `meanings`: the end of each line of a listing that has a code."""
-    rows = re.findall(r"^\| `(\w+)`[^|]* \| (\w+ `.*) \|$", text_of(path).split("| code | meanings |")[1].split("\n\n")[0], re.MULTILINE)
-    return {"%s %s = %s" % (field, *pair) for field, pairs in rows for pair in re.findall(r"(\w+) `([^`]*)`", pairs)}
+    """The table whose columns are `code` and `meanings`: what each line of a listing with a code ends in, as `Speed 0 = Unknown`."""
+    rows = ((cell.split("`")[1], values) for cell, values in rows_of(path, "code | meanings"))
+    return {"%s %s = %s" % (field, *value) for field, values in rows for value in re.findall(r"(\w+) `([^`]*)`", values)}
 
 
 # each place, what reads it, and the numbers that it must have
