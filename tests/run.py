@@ -392,7 +392,7 @@ def compare_choices(reference, number, seed):
 
 
 def fixed(references, others):
-    """What needs no images made: the words of refusals, samples, stored answers, input that is too long or cannot be read."""
+    """What needs no images made: the words of refusals, what codes mean, samples, stored answers, input that is too long or cannot be read."""
     print("tests: the words of refusals are the same in each of %d places, %d of them compared" % same_words())
     print("tests: %d values of codes listed with what they mean" % codes(references[BOARD]))
     print("tests: %d samples listed as stored" % samples(references))
