@@ -86,7 +86,7 @@ def listed_words():
     found = {}
     for sample in samples():
         with open(sample[:-4] + ".txt", encoding="ascii") as f:
-            refusal = re.match(r"refused (\d+) at \d+: (.*)", f.readline())
+            refusal = re.match(r"refused (\d+) at \d+ \([0-9A-F]+h\): (.*)", f.readline())
         if refusal:
             found[refusal[1]] = refusal[2]
     return found

@@ -57,6 +57,20 @@ def awkward(folder):
         fail("make write: another answer")
 
 
+def progress(folder):
+    """While crates are proved, a line for each on standard error; where one is not, the end of what the prover said. An rt stands in that only says so."""
+    stand_in = os.path.join(folder, "stand-in")
+    os.mkdir(stand_in)
+    with open(os.path.join(stand_in, "rt"), "w") as f:
+        f.write('#!/bin/sh\necho "rt: chain proved (unchanged since it was last proved)"\necho "rt: octets proved (18 s)"\nexit $STATUS\n')
+    os.chmod(os.path.join(stand_in, "rt"), 0o755)
+    for status, due in ((0, b"proved 2 of 2 crates: octets (18 s)\n"), (1, b"prove: not everything is proved; target/prove.log has what rt printed\n")):
+        run = subprocess.run(["scripts/prove", "octets"], capture_output=True,
+                             env={**os.environ, "PATH": stand_in + ":" + os.environ["PATH"], "STATUS": str(status)})
+        if run.returncode != status or run.stdout or not run.stderr.endswith(due):
+            fail("scripts/prove: status %d, %s" % (run.returncode, run.stderr.decode()))
+
+
 def environment(prefix):
     return {**os.environ, "PATH": prefix + "/bin:" + os.environ["PATH"], "PKG_CONFIG_PATH": prefix + "/lib/pkgconfig", "LC_ALL": "C.UTF-8"}
 
@@ -116,6 +130,7 @@ def programs(folder, prefix, sources):
 
 
 def try_install(folder):
+    progress(folder)
     awkward(folder)
     prefix, desk = os.path.join(folder, "prefix"), os.path.join(folder, "examples")
     make("install", "PREFIX=" + prefix)

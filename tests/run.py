@@ -46,10 +46,12 @@ import board_images
 import board_runs
 import tiny_images
 from building import ENVIRONMENT, build, exported, exporting, fail, independent
+from chip_runs import try_chip
 from coverage import table
 from formats import BOARD, FAR, TINY, due, outcome, with_fewer
 from header_runs import try_header
 from host_runs import compare_host
+from install_runs import try_install
 from upload_runs import try_upload
 from words import meanings, same_words
 
@@ -449,7 +451,8 @@ def main():
         libraries = exported(begun)
         compare_crcs(folder, libraries, seed)
         try_header(folder, libraries)
-        try_upload(folder, libraries)
+        try_upload(folder, libraries, try_chip(folder, libraries))
+        try_install(folder)
         table({**columns, **compare_host(folder, libraries, library, IMAGES, seed)}, (0, *TINY.rules, *BOARD.rules, *range(40, 47)))
 
 
