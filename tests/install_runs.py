@@ -77,12 +77,13 @@ def environment(prefix):
 
 def examples(blocks):
     """Commands, each with the lines that follow it."""
+    found = []
     for line in (line for block in blocks for line in block.strip("\n").split("\n")):
         if line.startswith("$ "):
-            command, lines = line[2:], []
-            yield command, lines
+            found.append((line[2:], []))
         else:
-            lines.append(line + "\n")
+            found[-1][1].append(line + "\n")
+    return found
 
 
 def try_examples(name, blocks, desk, prefix):
