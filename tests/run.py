@@ -48,6 +48,7 @@ import tiny_images
 from building import ENVIRONMENT, build, exported, exporting, fail, independent
 from chip_runs import try_chip
 from coverage import table
+from documents import try_documents
 from formats import BOARD, FAR, TINY, due, outcome, with_fewer
 from header_runs import try_header
 from host_runs import compare_host
@@ -394,9 +395,10 @@ def compare_choices(reference, number, seed):
 
 
 def fixed(references, others):
-    """What needs no images made: the words of refusals, what codes mean, samples, stored answers, input that is too long or cannot be read."""
+    """What needs no images made: documents, the words of refusals, what codes mean, samples, stored answers, input that is too long or cannot be read."""
     print("tests: the words of refusals are the same in each of %d places, %d of them compared" % same_words())
     print("tests: %d values of codes listed with what they mean" % codes(references[BOARD]))
+    try_documents()
     print("tests: %d samples listed as stored" % samples(references))
     stored_answers(references, others)
     other_input()
