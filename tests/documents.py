@@ -29,7 +29,7 @@ FOLDERS = ("crates", "chip", "tests", "samples", "docs", "bench", ".ci")
 PARTS = ("src", "specs", "proofs", "must-fail")  # folders of a crate
 
 ENDING = r"\.(?:rt|antt|edit|c|h|py|rs|md|bin|txt)\b"
-PATH = re.compile(r"(?<![\w/.:<*-])(?:\.?[\w*-]+(?:/[\w*.-]+)+/?|(?:crates|chip|tests|samples|docs|bench|\.ci)/(?![\w*]))")
+PATH = re.compile(r"(?<![\w/.:<*-])\.?[\w*-]+(?:(?:/[\w*.-]+)+/?|/(?![\w*/]))")
 FILE = re.compile(r"`([\w-]+%s)`" % ENDING)
 CODE = re.compile(r"`[^`]*`")
 LINK = re.compile(r"\[[^\]]*\]\(([^)]*)\)")
@@ -103,7 +103,7 @@ def dead_paths(name, text, crates):
     for path in sorted({found.rstrip(".") for found in PATH.findall(text)}):
         first = path.split("/")[0]
         known = first in FOLDERS or first in PARTS or name in UNDER_CRATES and first in crates
-        if (known or re.search(ENDING + "$", path)) and not MADE.match(path):
+        if (known or re.search("/$|%s$" % ENDING, path)) and not MADE.match(path):
             hold("paths", there(path, name, crates), "%s: no such path: %s", name, path)
 
 
