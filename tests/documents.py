@@ -173,7 +173,8 @@ def try_documents():
         dead_entries(path, CODE.sub("", text), numbers)
     if wrong:
         fail("the documents:\n  " + "\n  ".join(wrong))
-    print("tests: %d documents, not %s: %s" % (len(documents), ", ".join(LEFT_OUT), ", ".join("%s %d" % count for count in checked.items())))
+    left = "".join(", not " + name for name in LEFT_OUT)
+    print("tests: %d documents%s: %s" % (len(documents), left, ", ".join("%s %d" % count for count in checked.items())))
 
 
 if __name__ == "__main__":
