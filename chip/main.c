@@ -167,7 +167,7 @@ static enum status run_line(char **words) {
         put_usage(stderr);
         return USAGE;
     }
-    if (strcmp(words[0], "--help") == 0 || strcmp(words[0], "-h") == 0) {
+    if (strcmp(words[0], "--help") == 0 || strcmp(words[0], "-h") == 0 || strcmp(words[0], "help") == 0) {
         put_usage(stdout);
         return DONE;
     }
