@@ -13,7 +13,8 @@ enum status check_command(const struct typed *typed) {
     enum status status = take(typed, &image, &format);
     if (status != DONE)
         return status;
-    chip_answer answer = (format == TINY ? chip_tiny_judge : chip_board_judge)(image.bytes, image.length, typed->kinds);
+    chip_answer answer = (format == TINY ? chip_tiny_judge : chip_board_judge)(
+        image.bytes, image.length, typed->kinds);
     if (!chip_accepted(answer)) {
         put_refusal(stdout, answer);
         putchar('\n');
@@ -35,7 +36,8 @@ enum status name_command(const struct typed *typed) {
         complain("%s: a board image; only tiny images have a name", image.path);
         return REFUSED;
     }
-    chip_answer answer = chip_tiny_name(image.bytes, image.length, typed->kinds, (uint8_t *)name, sizeof name);
+    chip_answer answer =
+        chip_tiny_name(image.bytes, image.length, typed->kinds, (uint8_t *)name, sizeof name);
     if (!chip_accepted(answer))
         return refuse(image.path, answer);
     printf("%.*s\n", (int)chip_value(answer), name);

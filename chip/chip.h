@@ -1,22 +1,25 @@
 /*
- * The EEPROM chips of a workshop rig, for C (C99 and later) and C++ (C++11 and later): the judges of tiny images and of
- * board images, the choice between two board images, and the name that a tiny image gives a photograph.
+ * The EEPROM chips of a workshop rig, for C (C99 and later) and C++ (C++11 and later): the judges
+ * of tiny images and of board images, the choice between two board images, and the name that a tiny
+ * image gives a photograph.
  *
  * What holds of every call, and is proved of the library:
- * - it takes every image of every length, it ends, it reads nothing but the images that it is lent, and it writes nothing
- *   but the front of the name buffer;
+ * - it takes every image of every length, it ends, it reads nothing but the images that it is lent,
+ *   and it writes nothing but the front of the name buffer;
  * - it answers as the papers say, for every image;
  * - a refused call changes no byte of the name buffer.
  *
  * What is tested, on the platform that the library is built for, x86-64 Linux:
  * - a call takes at most CHIP_STACK bytes of stack, and no heap;
- * - it has no static data and keeps nothing between calls, so any number of threads may call it at once, and so may a
- *   signal handler.
+ * - it has no static data and keeps nothing between calls, so any number of threads may call it at
+ *   once, and so may a signal handler.
  *
- * What the caller owes: a pointer with a length stands for that many bytes that can be read (of the name buffer: and
- * written). Where the length is 0, the pointer is not followed. The name buffer does not overlap the image.
+ * What the caller owes: a pointer with a length stands for that many bytes that can be read (of the
+ * name buffer: and written). Where the length is 0, the pointer is not followed. The name buffer
+ * does not overlap the image.
  *
- * A program is linked with libchip.a: cc program.c $(pkg-config --cflags --libs chip). chip(3) says the same as this file.
+ * A program is linked with libchip.a: cc program.c $(pkg-config --cflags --libs chip). chip(3) says
+ * the same as this file.
  */
 #ifndef CHIP_H
 #define CHIP_H
@@ -29,7 +32,7 @@
 extern "C" {
 #endif
 
-/* The version of this header; chip_version() is that of the library which a program is linked with. */
+/* The version of this header; chip_version() is that of the library in a program. */
 #define CHIP_VERSION_MAJOR 1
 #define CHIP_VERSION_MINOR 0
 #define CHIP_VERSION_PATCH 0
@@ -46,9 +49,10 @@ extern "C" {
 #endif
 
 /*
- * The list of the kinds that a reader knows: a bit for each tag of tiny images and for each structure of board images. Any
- * set of them is a list; bits 17 to 31 count for nothing. An item of a kind that is not on the list, or a listed structure
- * of another VerMajor than 1, is passed over by its length, and nothing inside it is judged.
+ * The list of the kinds that a reader knows: a bit for each tag of tiny images and for each
+ * structure of board images. Any set of them is a list; bits 17 to 31 count for nothing. An item of
+ * a kind that is not on the list, or a listed structure of another VerMajor than 1, is passed over
+ * by its length, and nothing inside it is judged.
  */
 #define CHIP_KIND_01 UINT32_C(0x00001)      /* string pool */
 #define CHIP_KIND_10 UINT32_C(0x00002)      /* serial number */
@@ -72,12 +76,12 @@ extern "C" {
 #define CHIP_KINDS_BARE UINT32_C(0)       /* none */
 
 enum {
-    CHIP_TINY_LONGEST = 255,     /* bytes of a tiny image, and more than any name has */
-    CHIP_BOARD_LONGEST = 65536,  /* bytes of a board image; more are refused with CHIP_BOARD_SIZE */
-    CHIP_STACK = 16384           /* bytes of stack that a call takes at most */
+    CHIP_TINY_LONGEST = 255,    /* bytes of a tiny image, and more than any name has */
+    CHIP_BOARD_LONGEST = 65536, /* bytes of a board image; more are refused with CHIP_BOARD_SIZE */
+    CHIP_STACK = 16384          /* bytes of stack that a call takes at most */
 };
 
-/* The numbers of the refusals; chip_refusal_text() has the words, and beside each of them at which place it is told. */
+/* The numbers of the refusals; chip_refusal_text() has the words, and beside them the places. */
 enum {
     CHIP_ACCEPTED = 0,
 
@@ -118,15 +122,17 @@ enum {
 };
 
 /*
- * An answer. It is a struct so that no compiler takes `if (chip_tiny_judge(..))` for a question: chip_accepted() asks it, and
- * the functions below it take an answer apart. On x86-64 it is handed over as the number in it is, in a register:
+ * An answer. It is a struct so that no compiler takes `if (chip_tiny_judge(..))` for a question:
+ * chip_accepted() asks it, and the functions below it take an answer apart. On x86-64 it is handed
+ * over as the number in it is, in a register:
  *
- *     bits 0 to 31     the count or the length, or for a refusal its place, counted in bytes from the image's first; at most 65,536
+ *     bits 0 to 31     the count or the length; or the place of a refusal, in bytes from the
+ *                      image's first: at most 65,536
  *     bits 32 to 39    the number of the refusal; 0: none
  *     bit 40           chip_board_choice alone: 0 for the firmware image, 1 for the EEPROM image
  *
- * The other bits are 0. Where several rules are broken, the first in the papers' table is told, and of the places where it
- * is broken the smallest.
+ * The other bits are 0. Where several rules are broken, the first in the papers' table is told, and
+ * of the places where it is broken the smallest.
  */
 typedef struct chip_answer {
     uint64_t bits;
@@ -143,15 +149,19 @@ CHIP_MUST_USE chip_answer chip_tiny_judge(const uint8_t *image, size_t length, u
 /* How many structures a board image has; or refused with 20 to 33. */
 CHIP_MUST_USE chip_answer chip_board_judge(const uint8_t *image, size_t length, uint32_t kinds);
 
-/* Which of two board images a rig goes by, and its length: that many bytes from its first, which may be fewer than were
-   lent. If neither is accepted, the refusal of the firmware image, with 20 to 33. */
-CHIP_MUST_USE chip_answer chip_board_choice(const uint8_t *firmware, size_t firmware_length, const uint8_t *eeprom,
-                                            size_t eeprom_length, uint32_t kinds);
+/* Which of two board images a rig goes by, and its length: that many bytes from its first, which
+   may be fewer than were lent. If neither is accepted, the refusal of the firmware image, with 20
+   to 33. */
+CHIP_MUST_USE chip_answer chip_board_choice(const uint8_t *firmware, size_t firmware_length,
+                                            const uint8_t *eeprom, size_t eeprom_length,
+                                            uint32_t kinds);
 
-/* The length of the name that a tiny image gives. The name goes to the front of the buffer, without a zero behind it; the
-   rest of the buffer stays as it was. Its characters are 20h to 7Eh, '/' among them. Or refused with 1 to 11, CHIP_NO_NAME
-   or CHIP_ROOM_TOO_SHORT, and the buffer is as it was. */
-CHIP_MUST_USE chip_answer chip_tiny_name(const uint8_t *image, size_t length, uint32_t kinds, uint8_t *buffer, size_t room);
+/* The length of the name that a tiny image gives. The name goes to the front of the buffer, without
+   a zero behind it; the rest of the buffer stays as it was. Its characters are 20h to 7Eh, '/'
+   among them. Or refused with 1 to 11, CHIP_NO_NAME or CHIP_ROOM_TOO_SHORT, and the buffer is as it
+   was. */
+CHIP_MUST_USE chip_answer chip_tiny_name(const uint8_t *image, size_t length, uint32_t kinds,
+                                         uint8_t *buffer, size_t room);
 
 /* ---- what an answer says ---- */
 
@@ -181,48 +191,83 @@ CHIP_MUST_USE static inline bool chip_is_eeprom(chip_answer answer) {
 }
 
 /*
- * What the number of a refusal says. 40, 41, 42, 45 and 46 are refusals of the writers and of items, records and strings by
- * number, which no call of this library gives; the programs that come with it do.
+ * What the number of a refusal says. 40, 41, 42, 45 and 46 are refusals of the writers and of
+ * items, records and strings by number, which no call of this library gives; the programs that come
+ * with it do.
  */
 CHIP_MUST_USE static inline const char *chip_refusal_text(unsigned number) {
     switch (number) {
-    case CHIP_ACCEPTED: return "accepted";
+    case CHIP_ACCEPTED:
+        return "accepted";
     /* tiny images */
-    case CHIP_TINY_SIZE: return "fewer than 4 bytes"; /* at 0 */
-    case CHIP_TINY_FIRST_BYTE: return "the first byte is not 56h"; /* at 0 */
-    case CHIP_TINY_VERSION: return "the version is not 2"; /* at 1 */
-    case CHIP_TINY_LENGTH: return "the length byte is below 4 or above the number of bytes"; /* at 2 */
-    case CHIP_TINY_CHECK: return "the check byte is not the CRC-8 of the bytes before it"; /* at the check byte */
-    case CHIP_TINY_ITEM: return "an item, or its length byte, does not end before the check byte"; /* at its tag */
-    case CHIP_TINY_TAG_00: return "the long tag 00"; /* at its tag */
-    case CHIP_TINY_POOL_PLACE: return "the pool is not the last item"; /* at its tag */
-    case CHIP_TINY_POOL_BYTE: return "a pool byte is no character, or the last one has no end mark"; /* at the byte */
-    case CHIP_TINY_INDEX: return "an index is not below the string count"; /* at the index */
-    case CHIP_TINY_RANGE: return "a major, minor, pair of characters or batch is out of range"; /* at the field's first byte */
+    case CHIP_TINY_SIZE: /* at 0 */
+        return "fewer than 4 bytes";
+    case CHIP_TINY_FIRST_BYTE: /* at 0 */
+        return "the first byte is not 56h";
+    case CHIP_TINY_VERSION: /* at 1 */
+        return "the version is not 2";
+    case CHIP_TINY_LENGTH: /* at 2 */
+        return "the length byte is below 4 or above the number of bytes";
+    case CHIP_TINY_CHECK: /* at the check byte */
+        return "the check byte is not the CRC-8 of the bytes before it";
+    case CHIP_TINY_ITEM: /* at its tag */
+        return "an item, or its length byte, does not end before the check byte";
+    case CHIP_TINY_TAG_00: /* at its tag */
+        return "the long tag 00";
+    case CHIP_TINY_POOL_PLACE: /* at its tag */
+        return "the pool is not the last item";
+    case CHIP_TINY_POOL_BYTE: /* at the byte */
+        return "a pool byte is no character, or the last one has no end mark";
+    case CHIP_TINY_INDEX: /* at the index */
+        return "an index is not below the string count";
+    case CHIP_TINY_RANGE: /* at the field's first byte */
+        return "a major, minor, pair of characters or batch is out of range";
     /* board images */
-    case CHIP_BOARD_SIZE: return "fewer than 48 bytes, or more than 65536"; /* at 0 */
-    case CHIP_BOARD_HEADER: return "the header has another signature, VerMajor or Length"; /* at 0 */
-    case CHIP_BOARD_STRUCTLEN: return "StructLen is below 48 or above the number of bytes"; /* at 16 */
-    case CHIP_BOARD_STRUCTURE: return "no structure where one is due"; /* at its start */
-    case CHIP_BOARD_PADDING: return "a byte between structures is not zero"; /* at the byte */
-    case CHIP_BOARD_ORDER: return "a structure is missing, or in the wrong order"; /* at its start, or StructLen */
-    case CHIP_BOARD_HEAD: return "the map, the board or the signature structure has a wrong VerMajor or Length"; /* at its start */
-    case CHIP_BOARD_CHECK: return "Crc32 or CrcLength is not what it should be"; /* at 20 or 24 */
-    case CHIP_BOARD_END: return "the board structure ends past 4096"; /* at its start */
-    case CHIP_BOARD_HASHTYPE: return "HashType is not one that is known, or Length does not fit it"; /* at HashType */
-    case CHIP_BOARD_MAP: return "a field of the map is wrong"; /* at the field, or the label's bad byte */
-    case CHIP_BOARD_BOARDTYPE: return "BoardType is above 1"; /* at the field */
-    case CHIP_BOARD_RESERVED: return "a reserved byte is not zero"; /* at the byte */
-    case CHIP_BOARD_FIELD: return "a structure is too short, or a field of it is wrong"; /* at its start, the field, or the label's bad byte */
+    case CHIP_BOARD_SIZE: /* at 0 */
+        return "fewer than 48 bytes, or more than 65536";
+    case CHIP_BOARD_HEADER: /* at 0 */
+        return "the header has another signature, VerMajor or Length";
+    case CHIP_BOARD_STRUCTLEN: /* at 16 */
+        return "StructLen is below 48 or above the number of bytes";
+    case CHIP_BOARD_STRUCTURE: /* at its start */
+        return "no structure where one is due";
+    case CHIP_BOARD_PADDING: /* at the byte */
+        return "a byte between structures is not zero";
+    case CHIP_BOARD_ORDER: /* at its start, or StructLen */
+        return "a structure is missing, or in the wrong order";
+    case CHIP_BOARD_HEAD: /* at its start */
+        return "the map, the board or the signature structure has a wrong VerMajor or Length";
+    case CHIP_BOARD_CHECK: /* at 20 or 24 */
+        return "Crc32 or CrcLength is not what it should be";
+    case CHIP_BOARD_END: /* at its start */
+        return "the board structure ends past 4096";
+    case CHIP_BOARD_HASHTYPE: /* at HashType */
+        return "HashType is not one that is known, or Length does not fit it";
+    case CHIP_BOARD_MAP: /* at the field, or the label's bad byte */
+        return "a field of the map is wrong";
+    case CHIP_BOARD_BOARDTYPE: /* at the field */
+        return "BoardType is above 1";
+    case CHIP_BOARD_RESERVED: /* at the byte */
+        return "a reserved byte is not zero";
+    case CHIP_BOARD_FIELD: /* at its start, the field, or the label's bad byte */
+        return "a structure is too short, or a field of it is wrong";
     /* the writers, and what is asked for by number: at 0, but for the last two */
-    case CHIP_IMAGE_TOO_LONG: return "the image would have over 255 bytes, or as a board over 65536";
-    case CHIP_BUFFER_TOO_SHORT: return "the lent buffer is too short for the image";
-    case CHIP_NO_SUCH_NUMBER: return "no item, record or string has this number";
-    case CHIP_ROOM_TOO_SHORT: return "the lent list or name buffer is too short";
-    case CHIP_NO_NAME: return "no name: not exactly one known serial number, or its text cannot be decoded";
-    case CHIP_PROMSIG: return "the further bytes have a $PromSig, which no writer makes"; /* at its start */
-    case CHIP_RUN: return "an item's length is not its tag's, an item is a pool, or an item or record is cut short"; /* at the item's number */
-    default: return "no number of a refusal";
+    case CHIP_IMAGE_TOO_LONG:
+        return "the image would have over 255 bytes, or as a board over 65536";
+    case CHIP_BUFFER_TOO_SHORT:
+        return "the lent buffer is too short for the image";
+    case CHIP_NO_SUCH_NUMBER:
+        return "no item, record or string has this number";
+    case CHIP_ROOM_TOO_SHORT:
+        return "the lent list or name buffer is too short";
+    case CHIP_NO_NAME:
+        return "no name: not exactly one known serial number, or its text cannot be decoded";
+    case CHIP_PROMSIG: /* at its start */
+        return "the further bytes have a $PromSig, which no writer makes";
+    case CHIP_RUN: /* at the number of the item; of records at 0 */
+        return "an item's length is not its tag's, an item is a pool, or an item or record is cut short";
+    default:
+        return "no number of a refusal";
     }
 }
 

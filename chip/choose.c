@@ -4,19 +4,22 @@
 #include <string.h>
 
 /* The refusals of both; that of the firmware image is the answer. */
-static enum status refuse_both(const struct image *firmware, const struct image *eeprom, const struct typed *typed, chip_answer answer) {
+static enum status refuse_both(const struct image *firmware, const struct image *eeprom,
+                               const struct typed *typed, chip_answer answer) {
     refuse(firmware->path, answer);
     return refuse(eeprom->path, chip_board_judge(eeprom->bytes, eeprom->length, typed->kinds));
 }
 
 /* The chosen image in words, or with --which in one. With "-o -" standard output is the image's. */
-static enum status hand_out(const struct image *image, bool is_eeprom, size_t length, const struct typed *typed) {
+static enum status hand_out(const struct image *image, bool is_eeprom, size_t length,
+                            const struct typed *typed) {
     if (typed->out && strcmp(typed->out, "-") == 0)
         return save(typed->out, image->bytes, length);
     if (typed->which)
         puts(is_eeprom ? "eeprom" : "firmware");
     else
-        printf("the %s image, %s: %zu bytes\n", is_eeprom ? "EEPROM" : "firmware", image->path, length);
+        printf("the %s image, %s: %zu bytes\n", is_eeprom ? "EEPROM" : "firmware", image->path,
+               length);
     return typed->out ? save(typed->out, image->bytes, length) : DONE;
 }
 
@@ -31,7 +34,8 @@ enum status choose_command(const struct typed *typed) {
         status = read_image(typed->words[1], &eeprom);
     if (status != DONE)
         return status;
-    chip_answer answer = chip_board_choice(firmware.bytes, firmware.length, eeprom.bytes, eeprom.length, typed->kinds);
+    chip_answer answer = chip_board_choice(firmware.bytes, firmware.length, eeprom.bytes,
+                                           eeprom.length, typed->kinds);
     if (!chip_accepted(answer))
         return refuse_both(&firmware, &eeprom, typed, answer);
     bool is_eeprom = chip_is_eeprom(answer);

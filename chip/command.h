@@ -1,6 +1,6 @@
 /*
- * What the files of the command `chip` share: exit statuses, what was typed, and the functions of each file. To be included
- * before any other header.
+ * What the files of the command `chip` share: exit statuses, what was typed, and the functions of
+ * each file. To be included before any other header.
  */
 #ifndef COMMAND_H
 #define COMMAND_H
@@ -32,7 +32,8 @@ struct typed {
     bool which;
 };
 
-/* One byte more than the longest board image: a file that is longer is refused, whatever follows. */
+/* One byte more than the longest board image: a file that is longer is refused, whatever follows.
+ */
 struct image {
     const char *path;
     size_t length;
@@ -87,11 +88,12 @@ enum status run_program(const char *name, const void *input, size_t length, stru
 
 /* ---- store.c: files that are written ---- */
 
-/* Makes a file of these bytes, or replaces one; "-" is standard output. Whenever it is stopped, the file is as it was or whole. */
+/* Makes a file of these bytes, or replaces one; "-" is standard output. Whenever it is stopped, the
+ * file is as it was or whole. */
 enum status save(const char *path, const uint8_t *bytes, size_t length);
 
-/* Copies an open file, the one at source, to a name in a folder, unless something there has the name. Whenever it is stopped, the
-   name is not there or the file is whole. */
+/* Copies an open file, the one at source, to a name in a folder, unless something there has the
+   name. Whenever it is stopped, the name is not there or the file is whole. */
 enum status store(int from, const char *source, const char *folder, const char *name);
 
 #endif

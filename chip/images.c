@@ -25,13 +25,16 @@ enum status tell_format(const struct image *image, const struct typed *typed, en
     if (*format != NOT_SAID)
         return DONE;
     if (image->length == 0)
-        complain("%s: no bytes, so it is neither a tiny nor a board image; type --format tiny or --format board", image->path);
+        complain("%s: no bytes, so it is neither a tiny nor a board image; "
+                 "type --format tiny or --format board",
+                 image->path);
     else if (image->bytes[0] == 0x56)
         *format = TINY;
     else if (image->bytes[0] == 0x24)
         *format = BOARD;
     else
-        complain("%s: the first byte is %02Xh, neither 56h (tiny) nor 24h (board); type --format tiny or --format board",
+        complain("%s: the first byte is %02Xh, neither 56h (tiny) nor 24h (board); "
+                 "type --format tiny or --format board",
                  image->path, (unsigned)image->bytes[0]);
     return *format == NOT_SAID ? USAGE : DONE;
 }

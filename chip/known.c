@@ -18,11 +18,12 @@ struct kind {
 };
 
 static const struct kind all[] = {
-    {"01", CHIP_KIND_01},           {"10", CHIP_KIND_10},           {"11", CHIP_KIND_11},           {"60", CHIP_KIND_60},
-    {"61", CHIP_KIND_61},           {"62", CHIP_KIND_62},           {"80", CHIP_KIND_80},           {"81", CHIP_KIND_81},
-    {"AcpiTbl", CHIP_KIND_ACPITBL}, {"FPGAnfo", CHIP_KIND_FPGANFO}, {"GpioDat", CHIP_KIND_GPIODAT}, {"HdCodec", CHIP_KIND_HDCODEC},
-    {"Logo", CHIP_KIND_LOGO},       {"MemCnfg", CHIP_KIND_MEMCNFG}, {"MacInfo", CHIP_KIND_MACINFO}, {"uCode", CHIP_KIND_UCODE},
-    {"Video", CHIP_KIND_VIDEO},
+    {"01", CHIP_KIND_01},           {"10", CHIP_KIND_10},           {"11", CHIP_KIND_11},
+    {"60", CHIP_KIND_60},           {"61", CHIP_KIND_61},           {"62", CHIP_KIND_62},
+    {"80", CHIP_KIND_80},           {"81", CHIP_KIND_81},           {"AcpiTbl", CHIP_KIND_ACPITBL},
+    {"FPGAnfo", CHIP_KIND_FPGANFO}, {"GpioDat", CHIP_KIND_GPIODAT}, {"HdCodec", CHIP_KIND_HDCODEC},
+    {"Logo", CHIP_KIND_LOGO},       {"MemCnfg", CHIP_KIND_MEMCNFG}, {"MacInfo", CHIP_KIND_MACINFO},
+    {"uCode", CHIP_KIND_UCODE},     {"Video", CHIP_KIND_VIDEO},
 };
 
 enum { KINDS = sizeof all / sizeof all[0] };

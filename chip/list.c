@@ -12,7 +12,8 @@ enum status list_command(const struct typed *typed) {
     if (status == DONE)
         status = tell_format(&image, typed, &format);
     if (status == DONE)
-        status = run_program(format == TINY ? "tiny_list" : "board_list", image.bytes, image.length, &listing);
+        status = run_program(format == TINY ? "tiny_list" : "board_list", image.bytes, image.length,
+                             &listing);
     if (status != DONE)
         return status;
     fwrite(listing.text, 1, listing.length, stdout);

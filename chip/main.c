@@ -1,6 +1,7 @@
 /*
- * The command `chip`: lists, checks, names, chooses and writes the images of EEPROM chips, and uploads photographs. What it says of
- * an image is what the proved library (chip.h) or a proved program that is installed beside it answers. chip(1) is its page.
+ * The command `chip`: lists, checks, names, chooses and writes the images of EEPROM chips, and
+ * uploads photographs. What it says of an image is what the proved library (chip.h) or a proved
+ * program that is installed beside it answers. chip(1) is its page.
  */
 #include "command.h"
 
@@ -30,16 +31,21 @@ static const struct command commands[] = {
      "Writes one line: 'accepted' and the number of items, or why the image is refused.\n"},
     {"name", 1, FORMAT | KNOWN, name_command, "FILE", "say the name that a carrier's chip gives",
      "Writes the name alone on one line. Without a name it writes why on standard error.\n"},
-    {"choose", 2, KNOWN | OUT | WHICH, choose_command, "FIRMWARE EEPROM", "say which of two board images a rig goes by",
+    {"choose", 2, KNOWN | OUT | WHICH, choose_command, "FIRMWARE EEPROM",
+     "say which of two board images a rig goes by",
      "Writes which image is chosen, and its length; or why both are refused, on standard error.\n"},
     {"write", 1, FORMAT | OUT, write_command, "REQUEST", "write an image",
-     "Writes the image that the request in a file asks for: to OUT, or in hexadecimal. A request is a line:\n"
+     "Writes the image that the request in a file asks for: to OUT, or in hexadecimal.\n"
+     "A request is a line:\n"
      "  ROOM; RUN  or  ROOM; RUN; POOL                    a tiny image\n"
      "  ROOM; VERSION; MAP; RECORDS; BOARD; FURTHER       a board image\n"
-     "ROOM is how many bytes the image may take, in decimal; the other parts are bytes in hexadecimal.\n"},
-    {"upload", 3, 0, upload_command, "CHIP PHOTOGRAPH FOLDER", "store a photograph under its carrier's name",
-     "Copies the photograph to FOLDER under the name that the tiny image CHIP gives. It never overwrites a file,\n"
-     "and whenever it is stopped, the whole photograph is there or none.\n"},
+     "ROOM is how many bytes the image may take, in decimal; the other parts are bytes\n"
+     "in hexadecimal.\n"},
+    {"upload", 3, 0, upload_command, "CHIP PHOTOGRAPH FOLDER",
+     "store a photograph under its carrier's name",
+     "Copies the photograph to FOLDER under the name that the tiny image CHIP gives.\n"
+     "It never overwrites a file, and whenever it is stopped, the whole photograph is\n"
+     "there or none.\n"},
 };
 
 enum { COMMANDS = sizeof commands / sizeof commands[0] };
@@ -52,27 +58,37 @@ static void put_option(unsigned options, unsigned option, const char *text) {
 }
 
 static enum status put_command_help(const struct command *command) {
-    printf("usage: chip %s%s %s\n\n%s\n", command->name, command->options ? " [OPTION]..." : "", command->words, command->help);
-    put_option(command->options, FORMAT, "  --format tiny|board   the image's format, where its first byte does not tell\n");
-    put_option(command->options, KNOWN, "  --known LIST          answer as a rig that knows these kinds: full, bare, full-01, 10,MacInfo ..\n");
-    put_option(command->options, OUT, "  -o OUT                write the bytes to the file OUT ('-': standard output)\n");
-    put_option(command->options, WHICH, "  --which               write 'firmware' or 'eeprom' and nothing else\n");
+    printf("usage: chip %s%s %s\n\n%s\n", command->name, command->options ? " [OPTION]..." : "",
+           command->words, command->help);
+    put_option(command->options, FORMAT,
+               "  --format tiny|board   the image's format, where it cannot be told\n");
+    put_option(command->options, KNOWN,
+               "  --known LIST          answer as a rig that knows these kinds: full, bare,\n"
+               "                        full-01 (all but 01), or 01,10,MacInfo (these alone)\n");
+    put_option(command->options, OUT,
+               "  -o OUT                write the bytes to the file OUT ('-': standard output)\n");
+    put_option(command->options, WHICH,
+               "  --which               write 'firmware' or 'eeprom' and nothing else\n");
     puts("  --help                this text\n\n"
-         "A file '-' is standard input. Exit status: 0 done, 1 refused, 2 wrong usage, 3 a file cannot be read or written.");
+         "A file '-' is standard input. Exit status: 0 done, 1 refused, 2 wrong usage,\n"
+         "3 a file cannot be read or written.");
     return DONE;
 }
 
 static void put_usage(FILE *to) {
     fputs("usage: chip COMMAND ...\n\n", to);
     for (size_t i = 0; i < COMMANDS; i++)
-        fprintf(to, "  chip %-6s %-23s  %s\n", commands[i].name, commands[i].words, commands[i].summary);
+        fprintf(to, "  chip %-6s %-23s  %s\n", commands[i].name, commands[i].words,
+                commands[i].summary);
     fputs("\n  chip COMMAND --help    what a command takes\n"
-          "  chip --version         the version\n", to);
+          "  chip --version         the version\n",
+          to);
 }
 
 static enum status put_version(void) {
     unsigned version = chip_version();
-    printf("chip %s (library %u.%u.%u)\n", CHIP_VERSION_TEXT, version / 10000, version / 100 % 100, version % 100);
+    printf("chip %s (library %u.%u.%u)\n", CHIP_VERSION_TEXT, version / 10000, version / 100 % 100,
+           version % 100);
     return DONE;
 }
 
@@ -80,12 +96,13 @@ static enum status put_version(void) {
 
 static enum status wrong(const struct command *command, const char *what, const char *word) {
     complain("%s: %s%s%s", command->name, what, *word ? " " : "", word);
-    fprintf(stderr, "usage: chip %s%s %s; chip %s --help says more\n", command->name, command->options ? " [OPTION]..." : "", command->words,
-            command->name);
+    fprintf(stderr, "usage: chip %s%s %s; chip %s --help says more\n", command->name,
+            command->options ? " [OPTION]..." : "", command->words, command->name);
     return USAGE;
 }
 
-/* The bit of an option with a value, and the value: behind '=' or the next word. 0: no such option. */
+/* The bit of an option that has a value (0: no such option), and the value: behind '=', or the next
+ * word. */
 static unsigned option_of(char ***at, const char **value) {
     static const struct {
         const char *name;
@@ -108,7 +125,8 @@ static unsigned option_of(char ***at, const char **value) {
     return 0;
 }
 
-static enum status take_value(const struct command *command, unsigned option, const char *value, struct typed *typed) {
+static enum status take_value(const struct command *command, unsigned option, const char *value,
+                              struct typed *typed) {
     if (!value)
         return wrong(command, "a value is missing at the end", "");
     if (option == OUT)
@@ -116,7 +134,9 @@ static enum status take_value(const struct command *command, unsigned option, co
     if (option == KNOWN)
         return parse_known(value, &typed->kinds) ? DONE : USAGE;
     if (option == FORMAT) {
-        typed->format = strcmp(value, "tiny") == 0 ? TINY : strcmp(value, "board") == 0 ? BOARD : NOT_SAID;
+        typed->format = strcmp(value, "tiny") == 0    ? TINY
+                        : strcmp(value, "board") == 0 ? BOARD
+                                                      : NOT_SAID;
         if (typed->format == NOT_SAID)
             return wrong(command, "--format is tiny or board, and not", value);
     }
@@ -130,7 +150,8 @@ static enum status take_option(const struct command *command, char ***at, struct
         return DONE;
     }
     unsigned option = option_of(at, &value);
-    return option & command->options ? take_value(command, option, value, typed) : wrong(command, "no option of this command:", word);
+    return option & command->options ? take_value(command, option, value, typed)
+                                     : wrong(command, "no option of this command:", word);
 }
 
 static enum status take_word(const struct command *command, const char *word, struct typed *typed) {
@@ -167,7 +188,8 @@ static enum status run_line(char **words) {
         put_usage(stderr);
         return USAGE;
     }
-    if (strcmp(words[0], "--help") == 0 || strcmp(words[0], "-h") == 0 || strcmp(words[0], "help") == 0) {
+    if (strcmp(words[0], "--help") == 0 || strcmp(words[0], "-h") == 0 ||
+        strcmp(words[0], "help") == 0) {
         put_usage(stdout);
         return DONE;
     }

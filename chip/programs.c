@@ -1,4 +1,5 @@
-/* The proved programs that are installed beside the command: it hands them their input and takes what they print. */
+/* The proved programs that are installed beside the command: it hands them their input and takes
+ * what they print. */
 #include "command.h"
 
 #include <errno.h>
@@ -26,7 +27,8 @@ static bool find_program(const char *name, char path[PATH_MAX]) {
         *slash = 0;
     }
     size_t used = strlen(path);
-    return (size_t)snprintf(path + used, PATH_MAX - used, "/libexec/chip/%s", name) < PATH_MAX - used;
+    return (size_t)snprintf(path + used, PATH_MAX - used, "/libexec/chip/%s", name) <
+           PATH_MAX - used;
 }
 
 /* A file in memory that has these bytes, at its start; -1 if there is none to be had. */
@@ -94,7 +96,8 @@ static enum status finish(const char *path, pid_t process, bool good, const stru
 }
 
 /* Runs it between a file and a pipe. */
-static enum status run_between(const char *path, int input, const int ends[2], struct output *output) {
+static enum status run_between(const char *path, int input, const int ends[2],
+                               struct output *output) {
     pid_t process;
     int error = begin(path, input, ends[1], &process);
     close(ends[1]);

@@ -1,10 +1,11 @@
 /*
- * Files that are written so that a stop at any point, by a signal, a full disk or a loss of power, leaves under the final name
- * either nothing that was not there before, or the whole file.
+ * Files that are written so that a stop at any point, by a signal, a full disk or a loss of power,
+ * leaves under the final name either nothing that was not there before, or the whole file.
  *
- * The bytes go to a file beside, which is synced, then gets the final name, and then loses its own. Its name has a character
- * that no name on a chip has, so it is nobody's photograph. While it is being written it is locked; one that is not locked was
- * left by a process that was stopped, and the next one that writes to the folder takes it away.
+ * The bytes go to a file beside, which is synced, then gets the final name, and then loses its own.
+ * Its name has a character that no name on a chip has, so it is nobody's photograph. While it is
+ * being written it is locked; one that is not locked was left by a process that was stopped, and
+ * the next one that writes to the folder takes it away.
  */
 #include "command.h"
 
@@ -59,7 +60,8 @@ static int make_locked(struct beside *beside) {
     struct stat about;
     for (unsigned turn = 0;; turn++) {
         snprintf(beside->name, sizeof beside->name, BESIDE "%ld-%u", (long)getpid(), turn);
-        int file = openat(beside->folder, beside->name, O_WRONLY | O_CREAT | O_EXCL | O_CLOEXEC, 0666);
+        int file =
+            openat(beside->folder, beside->name, O_WRONLY | O_CREAT | O_EXCL | O_CLOEXEC, 0666);
         if (file < 0 && errno == EEXIST)
             continue;
         if (file < 0)
@@ -140,7 +142,8 @@ static enum status give_name(struct beside *beside, const char *name) {
         return REFUSED;
     }
     if (!sync_folder(beside))
-        return file_error(beside->path, "the photograph is stored, but the folder cannot be synced");
+        return file_error(beside->path,
+                          "the photograph is stored, but the folder cannot be synced");
     return DONE;
 }
 
@@ -149,9 +152,10 @@ enum status store(int from, const char *source, const char *folder, const char *
     if (!begin_beside(&beside, folder))
         return file_error(folder, "no file can be made there");
     enum copied copied = copy_all(from, beside.file);
-    enum status status = copied == NOT_READ      ? file_error(source, "cannot be read")
-                         : copied == NOT_WRITTEN ? file_error(folder, "the photograph cannot be written there")
-                                                 : give_name(&beside, name);
+    enum status status = copied == NOT_READ ? file_error(source, "cannot be read")
+                         : copied == NOT_WRITTEN
+                             ? file_error(folder, "the photograph cannot be written there")
+                             : give_name(&beside, name);
     end_beside(&beside);
     return status;
 }
@@ -197,7 +201,8 @@ static bool save_at(const char *path, const uint8_t *bytes, size_t length) {
         return errno == ENOENT && replace(path, 0, bytes, length);
     if (stat(found, &about) < 0)
         return false;
-    return S_ISREG(about.st_mode) ? replace(found, about.st_mode & 07777, bytes, length) : write_to(found, bytes, length);
+    return S_ISREG(about.st_mode) ? replace(found, about.st_mode & 07777, bytes, length)
+                                  : write_to(found, bytes, length);
 }
 
 enum status save(const char *path, const uint8_t *bytes, size_t length) {

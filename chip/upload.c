@@ -1,11 +1,13 @@
-/* chip upload: stores a photograph under the name that its carrier's chip gives, and never overwrites one. */
+/* chip upload: stores a photograph under the name that its carrier's chip gives, and never
+ * overwrites one. */
 #include "command.h"
 
 #include <fcntl.h>
 #include <string.h>
 #include <unistd.h>
 
-/* A name has characters 20h to 7Eh. These are not file names: one with a slash leads out of the folder, and the folder has the other two. */
+/* A name has characters 20h to 7Eh. These are not file names: one with a slash leads out of the
+ * folder, and the folder has the other two. */
 static bool is_file_name(const char *name) {
     return name[0] && !strchr(name, '/') && strcmp(name, ".") != 0 && strcmp(name, "..") != 0;
 }
@@ -16,7 +18,8 @@ static enum status take_name(const char *path, char name[CHIP_TINY_LONGEST + 1])
     enum status status = read_image(path, &image);
     if (status != DONE)
         return status;
-    chip_answer answer = chip_tiny_name(image.bytes, image.length, CHIP_KINDS_FULL, (uint8_t *)name, CHIP_TINY_LONGEST);
+    chip_answer answer = chip_tiny_name(image.bytes, image.length, CHIP_KINDS_FULL, (uint8_t *)name,
+                                        CHIP_TINY_LONGEST);
     if (!chip_accepted(answer))
         return refuse(image.path, answer);
     name[chip_value(answer)] = 0;

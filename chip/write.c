@@ -1,4 +1,5 @@
-/* chip write: the image that a proved writer makes of a request (docs/WRITING.md has the form of a request). */
+/* chip write: the image that a proved writer makes of a request (docs/WRITING.md has the form of a
+ * request). */
 #include "command.h"
 
 #include <ctype.h>
@@ -30,8 +31,10 @@ static enum status read_request(const char *path, struct request *request) {
     return status;
 }
 
-/* Which writer a request is for: it must be one line, and where no format was typed its semicolons tell. */
-static enum status tell_writer(const struct request *request, enum format typed, const char **program) {
+/* Which writer a request is for: it must be one line, and where no format was typed its semicolons
+ * tell. */
+static enum status tell_writer(const struct request *request, enum format typed,
+                               const char **program) {
     size_t lines = 0, semicolons = 0;
     for (size_t i = 0; i < request->length; i++) {
         lines += request->text[i] != '\n' && (i == 0 || request->text[i - 1] == '\n');
@@ -41,11 +44,15 @@ static enum status tell_writer(const struct request *request, enum format typed,
         complain("%s: one request is one line, and here are %zu", request->path, lines);
         return USAGE;
     }
-    enum format format = typed != NOT_SAID ? typed : semicolons == 5 ? BOARD : semicolons == 1 || semicolons == 2 ? TINY : NOT_SAID;
+    enum format format = typed != NOT_SAID                    ? typed
+                         : semicolons == 5                    ? BOARD
+                         : semicolons == 1 || semicolons == 2 ? TINY
+                                                              : NOT_SAID;
     *program = format == TINY ? "tiny_write" : "board_write";
     if (format != NOT_SAID)
         return DONE;
-    complain("%s: no request: a tiny image's has one or two semicolons, a board image's five", request->path);
+    complain("%s: no request: a tiny image's has one or two semicolons, a board image's five",
+             request->path);
     return USAGE;
 }
 
@@ -85,8 +92,9 @@ static enum status take_answer(char *answer, const char *path, const char *out) 
     bool refused = strncmp(answer, "refused ", strlen("refused ")) == 0;
     complain("%s: %.*s", path, (int)strcspn(answer, ";\n"), answer);
     if (!refused)
-        complain("a request is ROOM; RUN or ROOM; RUN; POOL for a tiny image, "
-                 "ROOM; VERSION; MAP; RECORDS; BOARD; FURTHER for a board image; chip(1) says more");
+        complain(
+            "a request is ROOM; RUN or ROOM; RUN; POOL for a tiny image, "
+            "ROOM; VERSION; MAP; RECORDS; BOARD; FURTHER for a board image; chip(1) says more");
     return refused ? REFUSED : USAGE;
 }
 

@@ -29,7 +29,7 @@ def in_c(function):
     def read(path):
         text = text_of(path)
         body = re.search(r"\b%s\([^)]*\) \{\n(.*?)^\}" % function, text, re.MULTILINE | re.DOTALL)
-        rows = re.findall(r'\bcase (\w+):\s*return "([^"]*)";', body[1]) if body else []
+        rows = re.findall(r'\bcase (\w+):\s*(?:/\*[^*]*\*/\s*)?return "([^"]*)";', body[1]) if body else []
         names = dict(re.findall(r"\b([A-Z]\w*) = (\d+)\b", text))
         return by_number(path, ((int(names.get(name, name)), said) for name, said in rows if names.get(name, name) != "0"))
     return read
