@@ -3,6 +3,7 @@ import os
 import random
 import re
 import resource
+import shutil
 import signal
 import subprocess
 import tempfile
@@ -15,7 +16,7 @@ from chip_runs import DONE, FILES, REFUSED, USAGE, SOURCES, Desk, named
 PHOTOGRAPH, OTHER = b"a photograph" * 20000, b"another one"
 LARGE = random.Random(0).randbytes(6000000)
 BESIDE = ".unfinished\u00b7"  # how the name begins of a file that is being written
-ROUNDS = 60  # kills at some time
+ROUNDS = 60  # kills at some time, at least
 AT_ONCE = 8  # uploads at once
 
 
@@ -138,24 +139,32 @@ def replacements(desk, plain, stopper):
     return at - 1
 
 
+def duration(desk, plain):
+    """How long an upload of the large photograph takes, at best."""
+    took = []
+    for _ in range(3):
+        began = time.monotonic()
+        subprocess.run([plain, "upload", "chip", "large", folder_of(desk)], cwd=desk.path, stdout=subprocess.PIPE, check=True)
+        took.append(time.monotonic() - began)
+    return min(took)
+
+
 def kills(desk, plain):
-    """Killed at some time, again and again."""
-    rnd, left, stored = random.Random(1), 0, 0
-    began = time.monotonic()
-    subprocess.run([plain, "upload", "chip", "large", folder_of(desk)], cwd=desk.path, stdout=subprocess.PIPE, check=True)
-    takes = time.monotonic() - began
-    for turn in range(ROUNDS):
+    """Killed at some time, again and again: until some left a file behind and some had stored the photograph. How many there were."""
+    rnd, takes, left, stored, turn = random.Random(1), duration(desk, plain), 0, 0, 0
+    while turn < ROUNDS or not left or not stored:
+        turn += 1
+        if turn > 20 * ROUNDS:
+            fail("%d kills left %d files behind and %d photographs stored" % (turn, left, stored))
         folder = folder_of(desk)
         with subprocess.Popen([plain, "upload", "chip", "large", folder], cwd=desk.path, stdout=subprocess.PIPE) as process:
-            time.sleep(rnd.uniform(0, 1.2 * takes))
+            time.sleep(rnd.uniform(0, 1.5 * takes))
             process.kill()
         left += whole_or_none(folder, {"top1": LARGE}, "upload killed at some time")
         stored += os.path.exists(os.path.join(folder, "top1"))
         next_run(desk, folder)
-        for name in os.listdir(folder):
-            os.remove(os.path.join(folder, name))
-    if not left or not stored:
-        fail("%d kills left %d files behind and %d photographs stored" % (ROUNDS, left, stored))
+        shutil.rmtree(folder)
+    return turn
 
 
 def full_disks(desk, plain):
@@ -209,7 +218,10 @@ def slow(desk, plain):
     with subprocess.Popen([plain, "upload", "chip", "-", folder], cwd=desk.path, stdin=subprocess.PIPE, stdout=subprocess.PIPE) as process:
         process.stdin.write(PHOTOGRAPH[:100000])
         process.stdin.flush()
+        until = time.monotonic() + 60
         while not any(name.startswith(BESIDE) for name in os.listdir(folder)):
+            if time.monotonic() > until:
+                fail("a slow upload has not begun to write after a minute")
             time.sleep(0.01)
         desk.chip(DONE, "upload", "fresh", "other", folder, out="stored %s/a b\n" % folder)
         if sum(name.startswith(BESIDE) for name in os.listdir(folder)) != 1:
@@ -232,10 +244,10 @@ def try_upload(folder, libraries, program):
     order(desk, plain, stopper)
     points, left = stops(desk, plain, stopper)
     replaced = replacements(desk, plain, stopper)
-    kills(desk, plain)
+    killed = kills(desk, plain)
     small = full_disks(desk, plain)
     unwritable(desk, plain)
     at_once(desk, plain)
     slow(desk, plain)
     print("tests: chip upload: %d runs ended as they must; killed at %d points one by one (%d files left behind, and taken away) and %d times at some time, "
-          "-o at %d points; a limit of size%s; %d at once" % (desk.runs, points, left, ROUNDS, replaced, " and a full disk" if small else "", AT_ONCE))
+          "-o at %d points; a limit of size%s; %d at once" % (desk.runs, points, left, killed, replaced, " and a full disk" if small else "", AT_ONCE))
