@@ -1,8 +1,6 @@
 /* chip choose: which of a firmware image and an EEPROM image a rig goes by. */
 #include "command.h"
 
-#include <string.h>
-
 /* The refusals of both; that of the firmware image is the answer. */
 static enum status refuse_both(const struct image *firmware, const struct image *eeprom,
                                const struct typed *typed, chip_answer answer) {
@@ -13,7 +11,7 @@ static enum status refuse_both(const struct image *firmware, const struct image 
 /* The chosen image in words, or with --which in one. With "-o -" standard output is the image's. */
 static enum status hand_out(const struct image *image, bool is_eeprom, size_t length,
                             const struct typed *typed) {
-    if (typed->out && strcmp(typed->out, "-") == 0)
+    if (typed->out && is_standard(typed->out))
         return save(typed->out, image->bytes, length);
     if (typed->which)
         puts(is_eeprom ? "eeprom" : "firmware");
@@ -25,7 +23,7 @@ static enum status hand_out(const struct image *image, bool is_eeprom, size_t le
 
 enum status choose_command(const struct typed *typed) {
     static struct image firmware, eeprom;
-    if (strcmp(typed->words[0], "-") == 0 && strcmp(typed->words[1], "-") == 0) {
+    if (is_standard(typed->words[0]) && is_standard(typed->words[1])) {
         complain("standard input can be one of the two images, and not both");
         return USAGE;
     }

@@ -64,7 +64,16 @@ void put_refusal(FILE *to, chip_answer answer);
 
 /* ---- images.c: files that are read ---- */
 
-/* Reads an image from a path, or from standard input where the path is "-". */
+/* Whether a path is "-": standard input, or behind -o standard output. */
+bool is_standard(const char *path);
+
+/* How a path that is read is called in a message. */
+const char *shown_path(const char *path);
+
+/* Reads what is at a path, at most this many bytes of it. */
+enum status read_bytes(const char *path, void *bytes, size_t room, size_t *length);
+
+/* Reads an image. */
 enum status read_image(const char *path, struct image *image);
 
 /* Which format an image has: what was typed, or what its first byte tells. */

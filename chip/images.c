@@ -1,23 +1,31 @@
-/* Images that are read from files, and which format they have. */
+/* Files that are read, and which format an image has. */
 #include "command.h"
 
 #include <string.h>
 
-static bool is_standard_input(const char *path) {
+bool is_standard(const char *path) {
     return strcmp(path, "-") == 0;
 }
 
-enum status read_image(const char *path, struct image *image) {
-    bool standard = is_standard_input(path);
+const char *shown_path(const char *path) {
+    return is_standard(path) ? "standard input" : path;
+}
+
+enum status read_bytes(const char *path, void *bytes, size_t room, size_t *length) {
+    bool standard = is_standard(path);
     FILE *file = standard ? stdin : fopen(path, "rb");
-    image->path = standard ? "standard input" : path;
     if (!file)
-        return file_error(image->path, "cannot be read");
-    image->length = fread(image->bytes, 1, sizeof image->bytes, file);
-    enum status status = ferror(file) ? file_error(image->path, "cannot be read") : DONE;
+        return file_error(path, "cannot be read");
+    *length = fread(bytes, 1, room, file);
+    enum status status = ferror(file) ? file_error(shown_path(path), "cannot be read") : DONE;
     if (!standard)
         fclose(file);
     return status;
+}
+
+enum status read_image(const char *path, struct image *image) {
+    image->path = shown_path(path);
+    return read_bytes(path, image->bytes, sizeof image->bytes, &image->length);
 }
 
 enum status tell_format(const struct image *image, const struct typed *typed, enum format *format) {

@@ -206,7 +206,7 @@ static bool save_at(const char *path, const uint8_t *bytes, size_t length) {
 }
 
 enum status save(const char *path, const uint8_t *bytes, size_t length) {
-    if (strcmp(path, "-") != 0)
+    if (!is_standard(path))
         return save_at(path, bytes, length) ? DONE : file_error(path, "cannot be written");
     fwrite(bytes, 1, length, stdout);
     return DONE;

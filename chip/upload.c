@@ -31,11 +31,11 @@ static enum status take_name(const char *path, char name[CHIP_TINY_LONGEST + 1])
 
 /* The photograph, from a path or from standard input, to its name in the folder. */
 static enum status store_photograph(const char *path, const char *folder, const char *name) {
-    bool standard = strcmp(path, "-") == 0;
+    bool standard = is_standard(path);
     int file = standard ? STDIN_FILENO : open(path, O_RDONLY | O_CLOEXEC);
     if (file < 0)
         return file_error(path, "cannot be read");
-    enum status status = store(file, standard ? "standard input" : path, folder, name);
+    enum status status = store(file, shown_path(path), folder, name);
     if (!standard)
         close(file);
     if (status == DONE)
@@ -45,7 +45,7 @@ static enum status store_photograph(const char *path, const char *folder, const 
 
 enum status upload_command(const struct typed *typed) {
     char name[CHIP_TINY_LONGEST + 1];
-    if (strcmp(typed->words[0], "-") == 0 && strcmp(typed->words[1], "-") == 0) {
+    if (is_standard(typed->words[0]) && is_standard(typed->words[1])) {
         complain("standard input can be the chip or the photograph, and not both");
         return USAGE;
     }

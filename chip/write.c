@@ -15,15 +15,8 @@ struct request {
 };
 
 static enum status read_request(const char *path, struct request *request) {
-    bool standard = strcmp(path, "-") == 0;
-    FILE *file = standard ? stdin : fopen(path, "rb");
-    request->path = standard ? "standard input" : path;
-    if (!file)
-        return file_error(request->path, "cannot be read");
-    request->length = fread(request->text, 1, sizeof request->text, file);
-    enum status status = ferror(file) ? file_error(request->path, "cannot be read") : DONE;
-    if (!standard)
-        fclose(file);
+    request->path = shown_path(path);
+    enum status status = read_bytes(path, request->text, sizeof request->text, &request->length);
     if (status == DONE && request->length > LONGEST_REQUEST) {
         complain("%s: a request has at most %d bytes", request->path, LONGEST_REQUEST);
         return USAGE;
@@ -80,7 +73,7 @@ static enum status hand_out(char *answer, const char *out) {
     }
     size_t length = take_bytes(answer);
     enum status status = save(out, (const uint8_t *)answer, length);
-    if (status == DONE && strcmp(out, "-") != 0)
+    if (status == DONE && !is_standard(out))
         printf("wrote %s: %zu bytes\n", out, length);
     return status;
 }

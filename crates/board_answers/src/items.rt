@@ -1,6 +1,6 @@
 // Items by number, and what each step of a walk shows.
-use super::far::FAR;
-use super::far::LAST;
+use console::far::FAR;
+use console::far::LAST;
 use super::records::put_gpio;
 use super::text::put_data;
 use super::text::put_refusal;

@@ -13,7 +13,6 @@ use verdict::Judged;
 ghost use Prim.Native.Nat.{_≤_};
 ghost use lib.ListN.{length};
 
-mod far;
 mod items;
 mod records;
 mod text;

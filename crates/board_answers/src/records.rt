@@ -1,6 +1,6 @@
 // Records by number.
-use super::far::FAR;
-use super::far::LAST;
+use console::far::FAR;
+use console::far::LAST;
 use super::text::put_refusal;
 use super::text::put_sixteen;
 use board::GpioRecord;

@@ -11,6 +11,7 @@ ghost use Prim.Native.Nat.{_≤_};
 ghost use lib.ListN.{length};
 ghost use Rattle.console.specs.Digit.{hexDigit};
 
+pub mod far;
 pub mod request;
 pub mod words;
 pub mod written;

@@ -1,6 +1,6 @@
 // Items by number, and what each step of a walk shows.
-use super::far::FAR;
-use super::far::LAST;
+use console::far::FAR;
+use console::far::LAST;
 use super::text::put_refusal;
 use super::text::put_text;
 use console::put;

@@ -1,6 +1,6 @@
 // Strings by number.
-use super::far::FAR;
-use super::far::LAST;
+use console::far::FAR;
+use console::far::LAST;
 use super::text::put_refusal;
 use super::text::put_text;
 use console::put;
