@@ -1,4 +1,6 @@
 # Everything that can be typed here; `make help` lists it.
+.DELETE_ON_ERROR:
+.NOTPARALLEL:
 .PHONY: all help install uninstall clean distclean list write test check compare soak bench fmt
 
 PREFIX ?= /usr/local
@@ -17,7 +19,6 @@ export PREFIX DESTDIR IMAGE FORMAT REQUEST IMAGES SEED BOARDS
 
 BUILT := target/chip
 PROGRAMS := tiny_list board_list tiny_write board_write
-PROVED := $(PROGRAMS:%=target/bin/%)
 SOURCES := crates.txt $(shell find crates -name '*.rt' -o -name '*.antt')
 COMPARED := $(PROGRAMS) tiny_answers board_answers choice_answers host reader_c crc_c
 STRICT := -std=c11 -Wall -Wextra -pedantic
@@ -41,23 +42,26 @@ clean: ## remove target/chip
 distclean: ## remove target, with every proof
 	@rm -rf target
 
-$(PROVED) &: $(SOURCES)
+# A stamp: what a run that failed has left is not taken for proved.
+target/proved: $(SOURCES)
 	@scripts/prove $(PROGRAMS) host
-	@touch $(PROVED)
+	@touch $@
 
-target/staticlib/libhost.a: $(SOURCES) | $(PROVED)
+$(BUILT)/lib/libchip.a: target/proved
 	@echo "making the library for C" >&2
 	@rt staticlib host >target/staticlib.log 2>&1 || { cat target/staticlib.log >&2; exit 1; }
+	@mkdir -p $(BUILT)/lib
+	@cp target/staticlib/libhost.a $@
 
-$(BUILT)/bin/chip: target/staticlib/libhost.a $(PROVED) $(wildcard chip/*)
+$(BUILT)/bin/chip: $(BUILT)/lib/libchip.a $(wildcard chip/*) docs/LISTING.md docs/WRITING.md
 	@command -v $(CC) >/dev/null || { echo "make: no C compiler: $(CC) is not found" >&2; exit 1; }
-	@mkdir -p $(BUILT)/bin $(BUILT)/lib $(BUILT)/libexec/chip $(BUILT)/include $(BUILT)/share/man/man1 $(BUILT)/share/man/man3
-	@cp $(PROVED) $(BUILT)/libexec/chip/
-	@cp target/staticlib/libhost.a $(BUILT)/lib/libchip.a
+	@mkdir -p $(addprefix $(BUILT)/,bin libexec/chip include share/man/man1 share/man/man3 share/doc/chip)
+	@cp $(PROGRAMS:%=target/bin/%) $(BUILT)/libexec/chip/
 	@cp chip/chip.h $(BUILT)/include/
 	@cp chip/chip.1 $(BUILT)/share/man/man1/
 	@cp chip/chip.3 $(BUILT)/share/man/man3/
-	@$(CC) $(STRICT) $(CFLAGS) $(LDFLAGS) -o $@ $(wildcard chip/*.c) $(BUILT)/lib/libchip.a
+	@cp docs/LISTING.md docs/WRITING.md $(BUILT)/share/doc/chip/
+	@$(CC) $(STRICT) $(CPPFLAGS) $(CFLAGS) $(LDFLAGS) -o $@ $(wildcard chip/*.c) $(BUILT)/lib/libchip.a
 	@echo "built $@ and $(BUILT)/lib/libchip.a"
 
 list: ## list the image in a file, without the command: make list IMAGE=samples/case4.bin (FORMAT=tiny or FORMAT=board; else its first byte tells)

@@ -6,7 +6,7 @@
  * What holds of every call, and is proved of the library:
  * - it takes every image of every length, it ends, it reads nothing but the images that it is lent,
  *   and it writes nothing but the front of the name buffer;
- * - it answers as the papers say, for every image;
+ * - it answers as the rules of the two layouts say, for every image;
  * - a refused call changes no byte of the name buffer.
  *
  * What is tested, on the platform that the library is built for, x86-64 Linux:
@@ -14,12 +14,11 @@
  * - it has no static data and keeps nothing between calls, so any number of threads may call it at
  *   once, and so may a signal handler.
  *
- * What the caller owes: a pointer with a length stands for that many bytes that can be read (of the
- * name buffer: and written). Where the length is 0, the pointer is not followed. The name buffer
+ * What the caller owes: each pointer leads to as many bytes as the length beside it says, which can
+ * be read (those of the name buffer: written). With a length of 0 it may be null. The name buffer
  * does not overlap the image.
  *
- * A program is linked with libchip.a: cc program.c $(pkg-config --cflags --libs chip). chip(3) says
- * the same as this file.
+ * A program is linked with libchip.a: cc program.c $(pkg-config --cflags --libs chip). See chip(3).
  */
 #ifndef CHIP_H
 #define CHIP_H
@@ -50,7 +49,7 @@ extern "C" {
 
 /*
  * The list of the kinds that a reader knows: a bit for each tag of tiny images and for each
- * structure of board images. Any set of them is a list; bits 17 to 31 count for nothing. An item of
+ * structure of board images. Any sum of these bits is a list; bits 17 to 31 are ignored. An item of
  * a kind that is not on the list, or a listed structure of another VerMajor than 1, is passed over
  * by its length, and nothing inside it is judged.
  */
@@ -81,7 +80,7 @@ enum {
     CHIP_STACK = 16384          /* bytes of stack that a call takes at most */
 };
 
-/* The numbers of the refusals; chip_refusal_text() has the words, and beside them the places. */
+/* The numbers of the refusals. chip_refusal_text() has the words, and comments in it the places. */
 enum {
     CHIP_ACCEPTED = 0,
 
@@ -122,8 +121,8 @@ enum {
 };
 
 /*
- * An answer. It is a struct so that no compiler takes `if (chip_tiny_judge(..))` for a question:
- * chip_accepted() asks it, and the functions below it take an answer apart. On x86-64 it is handed
+ * An answer. It is a struct so that `if (chip_tiny_judge(..))` does not compile: chip_accepted() is
+ * what asks, and the functions below it take an answer apart. On x86-64 it is handed
  * over as the number in it is, in a register:
  *
  *     bits 0 to 31     the count or the length; or the place of a refusal, in bytes from the

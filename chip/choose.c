@@ -11,7 +11,7 @@ static enum status refuse_both(const struct image *firmware, const struct image 
 /* The chosen image in words, or with --which in one. With "-o -" standard output is the image's. */
 static enum status hand_out(const struct image *image, bool is_eeprom, size_t length,
                             const struct typed *typed) {
-    if (typed->out && is_standard(typed->out))
+    if (typed->out && is_standard_output(typed->out))
         return save(typed->out, image->bytes, length);
     if (typed->which)
         puts(is_eeprom ? "eeprom" : "firmware");
@@ -25,6 +25,10 @@ enum status choose_command(const struct typed *typed) {
     static struct image firmware, eeprom;
     if (is_standard(typed->words[0]) && is_standard(typed->words[1])) {
         complain("standard input can be one of the two images, and not both");
+        return USAGE;
+    }
+    if (typed->which && typed->out && is_standard_output(typed->out)) {
+        complain("--which and -o %s both write to standard output", typed->out);
         return USAGE;
     }
     enum status status = read_image(typed->words[0], &firmware);

@@ -64,7 +64,7 @@ void put_refusal(FILE *to, chip_answer answer);
 
 /* ---- images.c: files that are read ---- */
 
-/* Whether a path is "-": standard input, or behind -o standard output. */
+/* Whether a path is "-". */
 bool is_standard(const char *path);
 
 /* How a path that is read is called in a message. */
@@ -96,6 +96,9 @@ struct output {
 enum status run_program(const char *name, const void *input, size_t length, struct output *output);
 
 /* ---- store.c: files that are written ---- */
+
+/* Whether what is written to a path goes to standard output: "-", /dev/stdout and the like. */
+bool is_standard_output(const char *path);
 
 /* Makes a file of these bytes, or replaces one; "-" is standard output. Whenever it is stopped, the
  * file is as it was or whole. */

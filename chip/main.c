@@ -112,8 +112,8 @@ static unsigned option_of(char ***at, const char **value) {
         size_t length = strlen(names[i].name);
         if (strncmp(**at, names[i].name, length) != 0)
             continue;
-        if ((**at)[length] == '=') {
-            *value = **at + length + 1;
+        if ((**at)[length] == '=' || (names[i].bit == OUT && (**at)[length])) {
+            *value = **at + length + ((**at)[length] == '=');
             return names[i].bit;
         }
         if ((**at)[length] == 0) {
@@ -127,8 +127,8 @@ static unsigned option_of(char ***at, const char **value) {
 
 static enum status take_value(const struct command *command, unsigned option, const char *value,
                               struct typed *typed) {
-    if (!value)
-        return wrong(command, "a value is missing at the end", "");
+    if (!value || !*value)
+        return wrong(command, "an option has no value", "");
     if (option == OUT)
         typed->out = value;
     if (option == KNOWN)
@@ -161,13 +161,17 @@ static enum status take_word(const struct command *command, const char *word, st
     return DONE;
 }
 
+static bool is_help(const char *word) {
+    return strcmp(word, "--help") == 0 || strcmp(word, "-h") == 0;
+}
+
 /* Reads the words behind a command's name, and runs it. */
 static enum status run(const struct command *command, char **at) {
     struct typed typed = {.kinds = CHIP_KINDS_FULL};
     bool options = true;
     for (; *at; at++) {
         enum status status = DONE;
-        if (options && strcmp(*at, "--help") == 0)
+        if (options && is_help(*at))
             return put_command_help(command);
         if (options && strcmp(*at, "--") == 0)
             options = false;
@@ -183,22 +187,29 @@ static enum status run(const struct command *command, char **at) {
     return command->run(&typed);
 }
 
+static const struct command *command_of(const char *name) {
+    for (size_t i = 0; i < COMMANDS; i++)
+        if (strcmp(name, commands[i].name) == 0)
+            return &commands[i];
+    return NULL;
+}
+
 static enum status run_line(char **words) {
     if (!words[0]) {
         put_usage(stderr);
         return USAGE;
     }
-    if (strcmp(words[0], "--help") == 0 || strcmp(words[0], "-h") == 0 ||
-        strcmp(words[0], "help") == 0) {
+    bool help = strcmp(words[0], "help") == 0;
+    if (is_help(words[0]) || (help && !words[1])) {
         put_usage(stdout);
         return DONE;
     }
     if (strcmp(words[0], "--version") == 0)
         return put_version();
-    for (size_t i = 0; i < COMMANDS; i++)
-        if (strcmp(words[0], commands[i].name) == 0)
-            return run(&commands[i], words + 1);
-    complain("%s is no command", words[0]);
+    const struct command *command = command_of(words[help]);
+    if (command)
+        return help ? put_command_help(command) : run(command, words + 1);
+    complain("%s is no command", words[help]);
     put_usage(stderr);
     return USAGE;
 }
@@ -219,8 +230,11 @@ int main(int argc, char **argv) {
     if (!open_standard_files())
         return file_error("standard output", "cannot be written");
     signal(SIGXFSZ, SIG_IGN); /* a file over the limit is told as a full disk is */
+    signal(SIGCHLD, SIG_DFL); /* a program that is run is waited for, whatever the caller ignores */
+    setvbuf(stderr, NULL, _IOLBF, BUFSIZ);
     enum status status = argv[0] ? run_line(argv + 1) : USAGE;
-    if (fflush(stdout) != 0 || ferror(stdout))
+    bool failed = ferror(stdout);
+    if (fclose(stdout) != 0 || failed)
         return file_error("standard output", "cannot be written");
     return status;
 }

@@ -6,7 +6,7 @@
 #include <stdlib.h>
 #include <string.h>
 
-enum { LONGEST_REQUEST = 262144 };
+enum { LONGEST_REQUEST = 262144, LONGEST_TINY_REQUEST = 65536 };
 
 struct request {
     const char *path;
@@ -14,13 +14,26 @@ struct request {
     char text[LONGEST_REQUEST + 1];
 };
 
+/* Without the carriage returns of a file whose lines end in CR LF. */
+static void drop_returns(struct request *request) {
+    size_t kept = 0;
+    for (size_t i = 0; i < request->length; i++)
+        if (request->text[i] != '\r' || (i + 1 < request->length && request->text[i + 1] != '\n'))
+            request->text[kept++] = request->text[i];
+    request->length = kept;
+}
+
+static enum status too_long(const struct request *request, int longest) {
+    complain("%s: a request has at most %d bytes", request->path, longest);
+    return USAGE;
+}
+
 static enum status read_request(const char *path, struct request *request) {
     request->path = shown_path(path);
     enum status status = read_bytes(path, request->text, sizeof request->text, &request->length);
-    if (status == DONE && request->length > LONGEST_REQUEST) {
-        complain("%s: a request has at most %d bytes", request->path, LONGEST_REQUEST);
-        return USAGE;
-    }
+    if (status == DONE && request->length > LONGEST_REQUEST)
+        return too_long(request, LONGEST_REQUEST);
+    drop_returns(request);
     return status;
 }
 
@@ -42,6 +55,8 @@ static enum status tell_writer(const struct request *request, enum format typed,
                          : semicolons == 1 || semicolons == 2 ? TINY
                                                               : NOT_SAID;
     *program = format == TINY ? "tiny_write" : "board_write";
+    if (format == TINY && request->length > LONGEST_TINY_REQUEST)
+        return too_long(request, LONGEST_TINY_REQUEST);
     if (format != NOT_SAID)
         return DONE;
     complain("%s: no request: a tiny image's has one or two semicolons, a board image's five",
@@ -73,7 +88,7 @@ static enum status hand_out(char *answer, const char *out) {
     }
     size_t length = take_bytes(answer);
     enum status status = save(out, (const uint8_t *)answer, length);
-    if (status == DONE && !is_standard(out))
+    if (status == DONE && !is_standard_output(out))
         printf("wrote %s: %zu bytes\n", out, length);
     return status;
 }

@@ -1,7 +1,9 @@
 """Tries the command `chip`: each outcome of each command, with its exit status and what it writes, and what is then on the disk."""
+import glob
 import os
 import re
 import shutil
+import signal
 import subprocess
 
 import board_images
@@ -9,11 +11,10 @@ import tiny_images
 from building import ENVIRONMENT, build, fail
 
 PROGRAMS = ("tiny_list", "board_list", "tiny_write", "board_write")
-SOURCES = ("main.c", "say.c", "images.c", "known.c", "check.c", "choose.c", "list.c", "programs.c", "write.c", "store.c", "upload.c")
+SOURCES = sorted(glob.glob("chip/*.c"))
 DONE, REFUSED, USAGE, FILES = range(4)
 REQUEST = b"12; 10 01 00; 74 6F 70 B1\n"
 WRITTEN = bytes.fromhex("56020C1000010474 6F70B157")
-ANY = re.compile("")
 
 
 def built(folder, library):
@@ -22,7 +23,7 @@ def built(folder, library):
         os.makedirs(os.path.join(folder, place))
     for name in PROGRAMS:
         shutil.copy(os.path.join("target", "bin", name), os.path.join(folder, "libexec", "chip"))
-    return build(os.path.join(folder, "bin"), "chip", *("chip/" + name for name in SOURCES), library)
+    return build(os.path.join(folder, "bin"), "chip", *SOURCES, library)
 
 
 def named(*names):
@@ -99,7 +100,7 @@ def known(desk):
             desk.chip(status, "name", "--known", text, "tiny", says="refused 44 at 0 (0h)")
         else:
             desk.chip(status, "name", "--known=" + text, "tiny", out="top1\n")
-    for text in ("", ",", "01,", "full-", "full-99", "Full", "01-10", "logo", "full,01"):
+    for text in (",", "01,", "full-", "full-99", "Full", "01-10", "logo", "full,01"):
         desk.chip(USAGE, "name", "--known", text, "tiny", says="is no kind")
     bad = board_images.plain(1, [board_images.structure(board_images.LOGO, b"\1" + bytes(15))]).image()
     desk.chip(REFUSED, "check", "-", given=bad, out=re.compile(r"refused 32 at \d+ \([0-9A-F]+h\): a reserved byte is not zero\n"))
@@ -115,7 +116,8 @@ def choices(desk):
     desk.chip(DONE, "choose", "long", "longer", out="the firmware image, long: 224 bytes\n")
     desk.chip(DONE, "choose", "longer", "long", "--which", out="eeprom\n")
     desk.chip(DONE, "choose", "-o", "chosen", "longer", "long", out="the EEPROM image, long: 224 bytes\n")
-    desk.chip(DONE, "choose", "-o", "-", "--which", "long", "longer", out=desk.get("board").decode("latin-1"))
+    desk.chip(DONE, "choose", "-o", "-", "long", "longer", out=desk.get("board").decode("latin-1"))
+    desk.chip(USAGE, "choose", "-o", "-", "--which", "long", "longer", says="--which and -o - both write to standard output")
     if desk.get("chosen") != desk.get("board"):
         fail("chip choose -o chosen: not the first StructLen bytes")
     desk.chip(REFUSED, "choose", "tiny", "longer", "-o", "never", says="tiny: refused 20 at 0 (0h)")
@@ -147,10 +149,34 @@ def writes(desk):
     desk.chip(USAGE, "write", "-", given=b"12; 1", says="not a request")
     desk.chip(USAGE, "write", "--format", "board", "request", says="not a request")
     desk.chip(USAGE, "write", "-", given=b"1" * 262145, says="at most 262144 bytes")
-    desk.chip(FILES, "write", "request", "-o", "no-folder/x", says="no-folder/x: cannot be written: No such file")
-    desk.chip(FILES, "write", "request", "-o", ".", says="cannot be written")
+    desk.chip(USAGE, "write", "-", given=b"12;" + b" " * 65536, says="at most 65536 bytes")
+    desk.chip(DONE, "write", "-", given=REQUEST.replace(b"\n", b"\r\n"), out="56 02 0C 10 00 01 04 74 6F 70 B1 57\n")
     if any(name == "never" or name.startswith(".") for name in os.listdir(desk.path)):
         fail("chip write left %s" % sorted(os.listdir(desk.path)))
+
+
+def outputs(desk):
+    """-o to what is no file of its own, and where none can be."""
+    desk.chip(DONE, "write", "request", "-o", "/dev/null", out="wrote /dev/null: 12 bytes\n")
+    desk.chip(DONE, "write", "request", "-o", "/dev/stdout", out=WRITTEN.decode("latin-1"))
+    desk.chip(DONE, "write", "request", "-oglued", out="wrote glued: 12 bytes\n")
+    for script, due in (('echo precious >log; "$0" write request -o /dev/stdout >>log; od -An -tx1 log', b"70 72 65 63 69 6f 75 73 0a 56 02 0c"),
+                        ('"$0" write request -o >(od -An -tx1 >piped) >/dev/null; while ! test -s piped; do :; done; cat piped', b"56 02 0c 10 00 01 04 74")):
+        run = subprocess.run(["bash", "-c", script, desk.program], cwd=desk.path, capture_output=True, env=ENVIRONMENT)
+        if b" ".join(run.stdout.split()).count(due) != 1 or run.stderr:
+            fail("%s: %s%s" % (script, run.stdout.decode(), run.stderr.decode()))
+        desk.runs += 1
+    desk.put("secret", b"x")
+    os.chmod(os.path.join(desk.path, "secret"), 0o4000)
+    desk.chip(DONE, "write", "request", "-o", "secret", out="wrote secret: 12 bytes\n")
+    if os.stat(os.path.join(desk.path, "secret")).st_mode & 0o7777:
+        fail("chip write -o: permissions of a file that had none")
+    os.symlink("nowhere", os.path.join(desk.path, "dangling"))
+    for out, why in (("no-folder/x", "No such file"), (".", "Is a directory"), ("folder/", "Is a directory"), ("dangling", "No such file")):
+        desk.chip(FILES, "write", "request", "-o", out, says="%s: cannot be written: %s" % (out, why))
+    if not os.path.islink(os.path.join(desk.path, "dangling")) or os.path.exists(os.path.join(desk.path, "folder")) or desk.get("glued") != WRITTEN:
+        fail("chip write -o: %s" % sorted(os.listdir(desk.path)))
+    desk.chip(DONE, "list", "tiny", out=re.compile("tiny 2(.|\n)*"), preexec_fn=lambda: signal.signal(signal.SIGCHLD, signal.SIG_IGN))
 
 
 def usage(desk):
@@ -166,11 +192,18 @@ def usage(desk):
         desk.chip(USAGE, command, says="a word is missing")
         desk.chip(USAGE, command, "a", "b", "c", "d", says="a word too many")
         desk.chip(USAGE, command, "--frob", says="no option of this command: --frob")
-    desk.chip(USAGE, "check", "tiny", "--format", says="a value is missing")
+        desk.chip(DONE, command, "-h", out=re.compile(r"usage: chip %s (.|\n)*" % command))
+        desk.chip(DONE, "help", command, out=re.compile(r"usage: chip %s (.|\n)*" % command))
+    desk.chip(DONE, "help", out=re.compile(r"usage: chip COMMAND(.|\n)*"))
+    desk.chip(USAGE, "help", "frob", says="frob is no command")
+    for words in (["check", "tiny", "--format"], ["check", "tiny", "--known", ""], ["write", "-", "-o", ""], ["write", "-", "-o"]):
+        desk.chip(USAGE, *words, says="an option has no value")
     desk.chip(USAGE, "check", "tiny", "--format", "Tiny", says="--format is tiny or board, and not Tiny")
     desk.chip(USAGE, "list", "--known", "full", "tiny", says="no option of this command: --known")
-    if len(commands) != 6:
-        fail("chip has %d commands" % len(commands))
+    with open("chip/chip.1") as f:
+        described = re.findall(r"^\.TP\n\.B (\w+)$", f.read().split(".SH COMMANDS")[1].split(".SH OPTIONS")[0], re.MULTILINE)
+    if sorted(commands) != sorted(described):
+        fail("chip has the commands %s, and chip(1) describes %s" % (commands, described))
 
 
 def files(desk):
@@ -202,7 +235,7 @@ def try_chip(folder, libraries):
     for name, image in (("tiny", named(b"top1")), ("board", board), ("damaged", named(b"top1")[:-1] + b"\0"), ("other", b"\0" * 60), ("empty", b""),
                         ("long", board.ljust(65536, b"\0")), ("longer", board.ljust(65537, b"\0"))):
         desk.put(name, image)
-    for part in (lists, formats, names, known, choices, writes, usage, files):
+    for part in (lists, formats, names, known, choices, writes, outputs, usage, files):
         part(desk)
     print("tests: %d runs of the command chip ended as they must" % desk.runs)
     return program

@@ -11,13 +11,17 @@ from chip_runs import named
 
 FILES = {"bin/chip": 0o755, "libexec/chip/tiny_list": 0o755, "libexec/chip/board_list": 0o755, "libexec/chip/tiny_write": 0o755,
          "libexec/chip/board_write": 0o755, "lib/libchip.a": 0o644, "lib/pkgconfig/chip.pc": 0o644, "include/chip.h": 0o644,
-         "share/man/man1/chip.1": 0o644, "share/man/man3/chip.3": 0o644}
+         "share/man/man1/chip.1": 0o644, "share/man/man3/chip.3": 0o644, "share/doc/chip/LISTING.md": 0o644, "share/doc/chip/WRITING.md": 0o644}
+FOLDER_MODE = 0o755
+TYPED = ("PREFIX", "DESTDIR", "IMAGE", "FORMAT", "REQUEST", "IMAGES", "SEED", "BOARDS", "MAKEFLAGS")
 AWKWARD = "a b'\"`touch RUN`$(touch RUN)$HOME\\;&*#"
 LANGUAGES = (("gcc", "c", "c11"), ("g++", "c++", "c++17"))
 
 
-def make(*words, status=0):
-    run = subprocess.run(["make", "--no-print-directory", *words], capture_output=True)
+def make(*words, status=0, **more):
+    """What is typed after make, and nothing from outside."""
+    outside = {name: value for name, value in os.environ.items() if name not in TYPED}
+    run = subprocess.run(["make", "--no-print-directory", *words], capture_output=True, env=outside, **more)
     if run.returncode != status:
         fail("make %s: status %d\n%s%s" % (" ".join(words), run.returncode, run.stdout.decode(), run.stderr.decode()))
     if os.path.exists("RUN"):
@@ -31,6 +35,32 @@ def installed(root):
             for place, _, names in os.walk(root) for name in names}
 
 
+def shut(folder):
+    """With a strict umask others can use what is installed all the same."""
+    root = os.path.join(folder, "shut")
+    make("install", "PREFIX=" + root, preexec_fn=lambda: os.umask(0o077))
+    modes = {stat.S_IMODE(os.stat(place).st_mode) for place, _, _ in os.walk(root)}
+    if modes != {FOLDER_MODE} or installed(root) != FILES:
+        fail("make install with a strict umask: folders of %s" % modes)
+
+
+def half_built(folder):
+    """What a check that failed has left is not taken for proved. An rt stands in that writes the programs and fails."""
+    tree, stand_in = os.path.join(folder, "tree"), os.path.join(folder, "failing")
+    for place in ("target/bin", "crates/a"):
+        os.makedirs(os.path.join(tree, place))
+    os.mkdir(stand_in)
+    for name in ("Makefile", "crates.txt", "scripts"):
+        os.symlink(os.path.abspath(name), os.path.join(tree, name))
+    with open(os.path.join(stand_in, "rt"), "w") as f:
+        f.write("#!/bin/sh\nfor name in tiny_list board_list tiny_write board_write; do echo >target/bin/$name; done\nexit 1\n")
+    os.chmod(os.path.join(stand_in, "rt"), 0o755)
+    for _ in range(2):
+        run = subprocess.run(["make", "-C", tree, "target/proved"], capture_output=True, env={**os.environ, "PATH": stand_in + ":" + os.environ["PATH"]})
+        if run.returncode != 2 or b"not everything is proved" not in run.stderr:
+            fail("make after a check that failed: status %d, %s" % (run.returncode, run.stderr.decode()))
+
+
 def awkward(folder):
     """Paths and requests are taken as they are typed, and nothing in them is run."""
     root = os.path.join(folder, AWKWARD)
@@ -41,13 +71,15 @@ def awkward(folder):
     if installed(root):
         fail("make uninstall left %s" % sorted(installed(root)))
     make("install", "PREFIX=relative", status=2)
+    make("install", "PREFIX=", status=2)
     image = os.path.join(folder, AWKWARD + ".bin")
     shutil.copy("samples/case4.bin", image)
     with open("samples/case4.txt", "rb") as stored:
         if make("list", "IMAGE=" + image).stdout != stored.read():
             fail("make list IMAGE=%s: another listing" % image)
     for words, error, says in ((["list", "IMAGE=samples/refused-5.bin"], 1, b""), (["list", "IMAGE=" + AWKWARD], 3, b"is no file that can be read"),
-                               (["list"], 2, b"which file?"), (["list", "IMAGE=samples/case4.bin", "FORMAT=" + AWKWARD], 2, b"FORMAT=tiny or FORMAT=board"),
+                               (["list"], 2, b"which file?"), (["list", "IMAGE=samples/case4.bin", "FORMAT=" + AWKWARD], 2, b"FORMAT=tiny or FORMAT=board, and not"),
+                               (["list", "IMAGE=samples/README.md"], 2, b"neither 56h (tiny) nor 24h (board)"),
                                (["write"], 2, b"what?"), (["write", "REQUEST=" + AWKWARD], 2, b"not a request"),
                                (["write", "REQUEST=11; 10 01 00; 74 6F 70 B1"], 1, b"refused 41 at 0 (0h): the lent buffer is too short")):
         said = make(*words, status=2).stderr
@@ -101,9 +133,9 @@ def page(name):
     """A manual page, which groff lays out without a warning where it is there, and its examples as they are read."""
     with open("chip/" + name) as f:
         source = f.read()
-    if shutil.which("groff") and subprocess.run(["groff", "-man", "-t", "-ww", "-z", "-Tutf8", "chip/" + name], capture_output=True).stderr:
+    if shutil.which("groff") and subprocess.run(["groff", "-man", "-t", "-ww", "-z", "-Tascii", "chip/" + name], capture_output=True).stderr:
         fail("chip/%s is not laid out without a warning" % name)
-    return source, [block.replace("\\e", "\\") for block in re.findall(r"^\.EX\n(.*?)^\.EE\n", source, re.DOTALL | re.MULTILINE)]
+    return source, [block.replace("\\-", "-").replace("\\e", "\\") for block in re.findall(r"^\.EX\n(.*?)^\.EE\n", source, re.DOTALL | re.MULTILINE)]
 
 
 def versions(prefix, pages):
@@ -132,7 +164,9 @@ def programs(folder, prefix, sources):
 
 def try_install(folder):
     progress(folder)
+    half_built(folder)
     awkward(folder)
+    shut(folder)
     prefix, desk = os.path.join(folder, "prefix"), os.path.join(folder, "examples")
     make("install", "PREFIX=" + prefix)
     if installed(prefix) != FILES:
@@ -153,8 +187,9 @@ def try_install(folder):
     compiled = programs(folder, prefix, [program, *re.findall(r"^```c\n(.*?)^```", readme, re.DOTALL | re.MULTILINE)])
     versions(prefix, (command, library))
     make("uninstall", "PREFIX=" + prefix)
-    if installed(prefix):
-        fail("make uninstall left %s" % sorted(installed(prefix)))
+    make("clean")
+    if installed(prefix) or os.path.exists("target/chip"):
+        fail("make uninstall left %s, or make clean target/chip" % sorted(installed(prefix)))
     if tried < 10 or typed < 5 or compiled < 4:
         fail("%d examples of chip(1), %d of README.md and %d programs" % (tried, typed, compiled))
     print("tests: installed and taken away; %d examples of chip(1) and %d of README.md write what they say, %d programs compiled with pkg-config"

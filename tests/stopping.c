@@ -1,9 +1,11 @@
 /*
  * Loaded into a program before the C library (LD_PRELOAD): kills it right before its call number STOP_AT, counted from 1, of those functions that change
- * what is on the disk or come between two that do; and writes the names of those calls to the file TRACE, a line for each.
+ * what is on the disk or come between two that do; and writes the names of those calls to the file TRACE, a line for each. With NO_LINKS there are no links,
+ * as on FAT.
  */
 #define _GNU_SOURCE
 #include <dlfcn.h>
+#include <errno.h>
 #include <fcntl.h>
 #include <signal.h>
 #include <stdarg.h>
@@ -60,12 +62,21 @@ int fsync(int file) {
 
 int linkat(int from, const char *old, int to, const char *name, int flags) {
     count("linkat");
+    if (getenv("NO_LINKS")) {
+        errno = EPERM;
+        return -1;
+    }
     return NEXT(linkat)(from, old, to, name, flags);
 }
 
 int renameat(int from, const char *old, int to, const char *name) {
     count("renameat");
     return NEXT(renameat)(from, old, to, name);
+}
+
+int renameat2(int from, const char *old, int to, const char *name, unsigned flags) {
+    count("renameat2");
+    return NEXT(renameat2)(from, old, to, name, flags);
 }
 
 int unlinkat(int folder, const char *name, int flags) {

@@ -32,6 +32,8 @@ def entries(folder):
 def outcomes(desk):
     """A photograph is stored once, and nothing is stored, here or elsewhere, where there is no name."""
     os.mkdir(os.path.join(desk.path, "photographs"))
+    around = [os.path.join(place, "out") for place in ("/", desk.path, os.path.join(desk.path, ".."))]
+    before = [os.path.exists(path) for path in around]
     for name, content in (("photo", PHOTOGRAPH), ("other", OTHER), ("chip", named(b"top1")), ("fresh", named(b"a b")), ("hidden", named(b".unfinished-1"))):
         desk.put(name, content)
     desk.chip(DONE, "upload", "chip", "photo", "photographs", out="stored photographs/top1\n")
@@ -51,6 +53,7 @@ def outcomes(desk):
     desk.chip(FILES, "upload", "fresh", "photo", "no-folder", says="no-folder: no file can be made there")
     desk.chip(FILES, "upload", "fresh", "photo", "other", says="other: no file can be made there: Not a directory")
     desk.chip(USAGE, "upload", "-", "-", "photographs", says="not both")
+    desk.chip(REFUSED, "upload", "fresh", "-", "photographs", says="standard input has no bytes and is not stored")
     closed = subprocess.run(["sh", "-c", '"$0" upload fresh photo photographs >&-', desk.program], cwd=desk.path, stderr=subprocess.PIPE, env=ENVIRONMENT)
     if closed.returncode != FILES or b"standard output" not in closed.stderr:
         fail("upload without a standard output: status %d, %s" % (closed.returncode, closed.stderr.decode()))
@@ -58,7 +61,7 @@ def outcomes(desk):
     desk.chip(DONE, "upload", "-", "photo", "photographs", given=named(b"z" * 247), out="stored photographs/%s\n" % ("z" * 247))
     if entries(os.path.join(desk.path, "photographs")) != {"top1": PHOTOGRAPH, ".unfinished-1": PHOTOGRAPH, "a b": OTHER, "z" * 247: PHOTOGRAPH}:
         fail("upload stored %s" % sorted(os.listdir(os.path.join(desk.path, "photographs"))))
-    if set(os.listdir(desk.path)) & {"out", "b", "a"} or os.path.exists("/out") or os.path.exists(os.path.join(desk.path, "..", "out")):
+    if set(os.listdir(desk.path)) & {"b", "a"} or [os.path.exists(path) for path in around] != before:
         fail("upload stored a photograph outside the folder")
 
 
@@ -95,14 +98,23 @@ def next_run(desk, folder):
         fail("%s is still there after the next upload" % sorted(os.listdir(folder)))
 
 
-def stops(desk, plain, stopper):
-    """Killed right before each call that matters, one after the other."""
+def leave(folder, name="0"):
+    """Something that a process which was stopped has left: it has a name of its own, and no lock."""
+    path = os.path.join(folder, BESIDE + name)
+    with open(path, "wb") as f:
+        f.write(b"left")
+    os.chmod(path, 0o400)
+
+
+def stops(desk, plain, stopper, **more):
+    """Killed right before each call that matters, one after the other, in a folder where something was left."""
     left = stored = at = 0
     while True:
         at += 1
         folder = folder_of(desk)
+        leave(folder)
         run = subprocess.run([plain, "upload", "chip", "photo", folder], cwd=desk.path, stdout=subprocess.PIPE,
-                             env={**os.environ, "LD_PRELOAD": stopper, "STOP_AT": str(at)})
+                             env={**os.environ, "LD_PRELOAD": stopper, "STOP_AT": str(at), **more})
         if run.returncode not in (DONE, -signal.SIGKILL):
             fail("upload, stopped at call %d, ended with %d" % (at, run.returncode))
         left += whole_or_none(folder, {"top1": PHOTOGRAPH}, "upload stopped at call %d" % at)
@@ -114,7 +126,7 @@ def stops(desk, plain, stopper):
             fail("after a stop at call %d an upload ended with %d, and left %s" % (at, again.returncode, sorted(os.listdir(folder))))
         if run.returncode == DONE:
             break
-    if at < 15 or not 3 <= left < at or not 2 <= stored < at - 5:
+    if at < 15 or not 3 <= left or not 2 <= stored < at - 5:
         fail("%d stops left %d files behind and %d photographs stored" % (at, left, stored))
     return at - 1, left
 
@@ -129,6 +141,8 @@ def replacements(desk, plain, stopper):
         desk.put(os.path.join(folder, "image"), OTHER)
         run = subprocess.run([plain, "write", "request", "-o", os.path.join(folder, "image")], cwd=desk.path, capture_output=True,
                              env={**os.environ, "LD_PRELOAD": stopper, "STOP_AT": str(at)})
+        if at > 200:
+            fail("a file that -o replaces is never written")
         if run.returncode == FILES:
             continue  # the writer that it runs was stopped, and not the command
         seen.add(entries(folder)["image"])
@@ -176,11 +190,14 @@ def full_disks(desk, plain):
     desk.chip(FILES, "upload", "chip", "photo", folder, says="the photograph cannot be written there: File too large", preexec_fn=limited)
     if os.listdir(folder):
         fail("a file over the limit left %s" % os.listdir(folder))
-    script = 'mount -t tmpfs -o size=128k none "$1" || exit 99; "$0" upload chip photo "$1"; status=$?; ls -A "$1"; exit $status'
-    run = subprocess.run(["unshare", "-m", "sh", "-c", script, plain, folder], cwd=desk.path, capture_output=True)
-    if run.returncode not in (FILES, 99, 1) or run.returncode == FILES and (run.stdout or b"No space left" not in run.stderr):
+    mount = ["unshare", "-m", "sh", "-c", 'mount -t tmpfs -o size=128k none "$1" && shift && "$@"', "sh", folder]
+    if not shutil.which("unshare") or subprocess.run([*mount, "true"], capture_output=True).returncode:
+        return False
+    script = '"$0" upload chip photo "$1"; status=$?; ls -A "$1"; echo there >"$1/top1"; "$0" upload chip photo "$1"; exit $((10 * status + $?))'
+    run = subprocess.run([*mount, "sh", "-c", script, plain, folder], cwd=desk.path, capture_output=True)
+    if run.returncode != 10 * FILES + REFUSED or run.stdout or b"No space left" not in run.stderr or b"there already" not in run.stderr:
         fail("a full disk: status %d, %s%s" % (run.returncode, run.stdout.decode(), run.stderr.decode()))
-    return run.returncode == FILES
+    return True
 
 
 def unwritable(desk, plain):
@@ -188,6 +205,11 @@ def unwritable(desk, plain):
     folder = folder_of(desk)
     os.chmod(folder, 0o555)
     user = {"user": 65534, "group": 65534, "extra_groups": []} if os.geteuid() == 0 else {}
+    try:
+        subprocess.run([plain, "--version"], cwd=desk.path, stdout=subprocess.PIPE, check=True, **user)
+    except PermissionError:
+        print("tests: nobody cannot reach the folder of the tests, so a folder that may not be written is not tried")
+        return
     run = subprocess.run([plain, "upload", "chip", "photo", folder], cwd=desk.path, capture_output=True, **user)
     if run.returncode != FILES or b"no file can be made there: Permission denied" not in run.stderr or os.listdir(folder):
         fail("a folder that may not be written: status %d, %s" % (run.returncode, run.stderr.decode()))
@@ -201,6 +223,9 @@ def at_once(desk, plain):
         desk.put("chip-" + name, named(name.encode()))
     for turn in range(10):
         one, many = folder_of(desk), folder_of(desk)
+        for number in range(4):
+            leave(one, str(number))
+            leave(many, str(number))
         running = [(name, chip, subprocess.Popen([plain, "upload", chip, name, folder], cwd=desk.path, stdout=subprocess.PIPE, stderr=subprocess.PIPE))
                    for name in photographs for chip, folder in (("chip", one), ("chip-" + name, many))]
         ended = [(name, chip, process.communicate() and process.returncode) for name, chip, process in running]
@@ -237,12 +262,13 @@ def try_upload(folder, libraries, program):
     desk = Desk(os.path.join(folder, "shop"), program)
     plain, stopper = os.path.join(os.path.dirname(program), "plain"), os.path.join(folder, "stopping.so")
     strict = ["gcc", "-std=c11", "-O2", "-Wall", "-Wextra", "-Werror"]
-    subprocess.run([*strict, "-o", plain, *("chip/" + name for name in SOURCES), libraries["host"]], check=True)
+    subprocess.run([*strict, "-o", plain, *SOURCES, libraries["host"]], check=True)
     subprocess.run([*strict, "-shared", "-fPIC", "-o", stopper, "tests/stopping.c", "-ldl"], check=True)
     outcomes(desk)
     desk.put("large", LARGE)
     order(desk, plain, stopper)
     points, left = stops(desk, plain, stopper)
+    unlinked, _ = stops(desk, plain, stopper, NO_LINKS="1")
     replaced = replacements(desk, plain, stopper)
     killed = kills(desk, plain)
     small = full_disks(desk, plain)
@@ -250,4 +276,4 @@ def try_upload(folder, libraries, program):
     at_once(desk, plain)
     slow(desk, plain)
     print("tests: chip upload: %d runs ended as they must; killed at %d points one by one (%d files left behind, and taken away) and %d times at some time, "
-          "-o at %d points; a limit of size%s; %d at once" % (desk.runs, points, left, killed, replaced, " and a full disk" if small else "", AT_ONCE))
+          "-o at %d points, without links at %d; a limit of size%s; %d at once" % (desk.runs, points, left, killed, replaced, unlinked, " and a full disk" if small else "", AT_ONCE))

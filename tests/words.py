@@ -1,4 +1,5 @@
-"""The words of refusals, by number, as each place has them: the header for C, the Rattle programs, docs/LISTING.md and the references in C.
+"""The words of refusals, by number, as each place has them: the header for C, the manual pages, the Rattle programs, docs/LISTING.md and
+the references in C.
 And what codes mean in a listing."""
 import os
 import re
@@ -51,6 +52,15 @@ def in_tables(path):
     return by_number(path, ((int(number), said) for number, said in rows_of(path, "number | words")))
 
 
+def in_page(path):
+    """The rows of a manual page: a number, with its name in front or none, and the words as a block of text. A name is that of chip/chip.h."""
+    rows = re.findall(r"^(?:(CHIP_\w+)\t)?(\d+)\tT\{\n(.*)\nT\}$", text_of(path), re.MULTILINE)
+    for name, number, _ in rows:
+        if name and "%s = %s" % (name, number) not in text_of("chip/chip.h"):
+            fail("%s: %s is not %s in chip/chip.h" % (path, name, number))
+    return by_number(path, ((int(number), said.replace("\\(aq", "'")) for _, number, said in rows))
+
+
 def meanings(path):
     """The table whose columns are `code` and `meanings`: what each line of a listing with a code ends in, as `Speed 0 = Unknown`."""
     rows = ((cell.split("`")[1], values) for cell, values in rows_of(path, "code | meanings"))
@@ -62,6 +72,8 @@ PLACES = (
     ("docs/LISTING.md", in_tables, NUMBERS),
     ("crates/console/src/words.rt", in_rattle, NUMBERS),
     ("chip/chip.h", in_c("chip_refusal_text"), NUMBERS),
+    ("chip/chip.1", in_page, NUMBERS),
+    ("chip/chip.3", in_page, NUMBERS),
     ("tests/reference/tiny.c", in_c("words_of"), (*range(1, 12), 40, 41, 46)),
     ("tests/reference/board.c", in_c("words_of"), (*range(20, 34), 40, 41, 45, 46)),
 )

@@ -1,6 +1,4 @@
 // Items by number, and what each step of a walk shows.
-use console::far::FAR;
-use console::far::LAST;
 use super::records::put_gpio;
 use super::text::put_data;
 use super::text::put_refusal;
@@ -19,6 +17,8 @@ use board::MemCnfgFields;
 use board::PromSigFields;
 use board::ShownItem;
 use board::item_numbered;
+use console::far::FAR;
+use console::far::LAST;
 use console::put;
 use console::put_decimal;
 use console::put_hex;

@@ -1,6 +1,4 @@
 // Records by number.
-use console::far::FAR;
-use console::far::LAST;
 use super::text::put_refusal;
 use super::text::put_sixteen;
 use board::GpioRecord;
@@ -9,6 +7,8 @@ use board::MapRecord;
 use board::MapRecordAnswer;
 use board::gpio_record_numbered;
 use board::map_record_numbered;
+use console::far::FAR;
+use console::far::LAST;
 use console::put;
 use console::put_decimal;
 use console::put_number;

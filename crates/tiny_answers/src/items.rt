@@ -1,8 +1,8 @@
 // Items by number, and what each step of a walk shows.
-use console::far::FAR;
-use console::far::LAST;
 use super::text::put_refusal;
 use super::text::put_text;
+use console::far::FAR;
+use console::far::LAST;
 use console::put;
 use console::put_decimal;
 use console::put_hex;

@@ -1,8 +1,8 @@
 // Strings by number.
-use console::far::FAR;
-use console::far::LAST;
 use super::text::put_refusal;
 use super::text::put_text;
+use console::far::FAR;
+use console::far::LAST;
 use console::put;
 use console::put_decimal;
 use kinds::Kinds;
