@@ -8,17 +8,20 @@ static enum status refuse_both(const struct image *firmware, const struct image 
     return refuse(eeprom->path, chip_board_judge(eeprom->bytes, eeprom->length, typed->kinds));
 }
 
-/* The chosen image in words, or with --which in one. With "-o -" standard output is the image's. */
+/* The chosen image as a file, where one is asked for; then in words, or with --which in one word,
+ * unless standard output has the image. */
 static enum status hand_out(const struct image *image, bool is_eeprom, size_t length,
                             const struct typed *typed) {
-    if (typed->out && is_standard_output(typed->out))
-        return save(typed->out, image->bytes, length);
+    bool taken = typed->out && is_standard_output(typed->out);
+    enum status status = typed->out ? save(typed->out, image->bytes, length) : DONE;
+    if (status != DONE || taken)
+        return status;
     if (typed->which)
         puts(is_eeprom ? "eeprom" : "firmware");
     else
         printf("the %s image, %s: %zu bytes\n", is_eeprom ? "EEPROM" : "firmware", image->path,
                length);
-    return typed->out ? save(typed->out, image->bytes, length) : DONE;
+    return DONE;
 }
 
 enum status choose_command(const struct typed *typed) {

@@ -32,8 +32,7 @@ struct typed {
     bool which;
 };
 
-/* One byte more than the longest board image: a file that is longer is refused, whatever follows.
- */
+/* A file with one byte more than the longest board image is refused, whatever follows. */
 struct image {
     const char *path;
     size_t length;

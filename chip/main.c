@@ -226,13 +226,12 @@ static bool open_standard_files(void) {
 }
 
 int main(int argc, char **argv) {
-    (void)argc;
     if (!open_standard_files())
         return file_error("standard output", "cannot be written");
     signal(SIGXFSZ, SIG_IGN); /* a file over the limit is told as a full disk is */
     signal(SIGCHLD, SIG_DFL); /* a program that is run is waited for, whatever the caller ignores */
     setvbuf(stderr, NULL, _IOLBF, BUFSIZ);
-    enum status status = argv[0] ? run_line(argv + 1) : USAGE;
+    enum status status = argc > 0 ? run_line(argv + 1) : USAGE;
     bool failed = ferror(stdout);
     if (fclose(stdout) != 0 || failed)
         return file_error("standard output", "cannot be written");

@@ -69,36 +69,37 @@ static unsigned value(char digit) {
     return (unsigned)(isdigit((unsigned char)digit) ? digit - '0' : digit - 'A' + 10);
 }
 
-/* The bytes of "length N: BYTES", each a blank and two digits, put at the front of the text. */
+/* The bytes of a text of two digits each with a blank between them, put at its front. */
 static size_t take_bytes(char *text) {
-    size_t count = strtoul(text + strlen("length "), NULL, 10);
-    const char *digits = strchr(text, ':') + 1;
-    for (size_t i = 0; i < count; i++, digits += 3)
-        text[i] = (char)(value(digits[1]) << 4 | value(digits[2]));
+    size_t count = (strlen(text) + 1) / 3;
+    for (size_t i = 0; i < count; i++)
+        text[i] = (char)(value(text[3 * i]) << 4 | value(text[3 * i + 1]));
     return count;
 }
 
 /* The image as it was asked for: its bytes to a file, or in hexadecimal. */
-static enum status hand_out(char *answer, const char *out) {
-    char *end = answer + strcspn(answer, ";\n");
-    *end = 0;
+static enum status hand_out(char *image, const char *out) {
     if (!out) {
-        puts(strchr(answer, ':') + 2);
+        puts(image);
         return DONE;
     }
-    size_t length = take_bytes(answer);
-    enum status status = save(out, (const uint8_t *)answer, length);
-    if (status == DONE && !is_standard_output(out))
+    bool taken = is_standard_output(out);
+    size_t length = take_bytes(image);
+    enum status status = save(out, (const uint8_t *)image, length);
+    if (status == DONE && !taken)
         printf("wrote %s: %zu bytes\n", out, length);
     return status;
 }
 
-/* What a writer answers: an image, a refusal, or that the line is no request. */
+/* What a writer answers, up to what is left of its buffer: "length N: " and the image, a refusal,
+ * or that the line is no request. */
 static enum status take_answer(char *answer, const char *path, const char *out) {
-    if (strncmp(answer, "length ", strlen("length ")) == 0)
-        return hand_out(answer, out);
+    answer[strcspn(answer, ";\n")] = 0;
+    char *image = strstr(answer, ": ");
+    if (strncmp(answer, "length ", strlen("length ")) == 0 && image)
+        return hand_out(image + strlen(": "), out);
     bool refused = strncmp(answer, "refused ", strlen("refused ")) == 0;
-    complain("%s: %.*s", path, (int)strcspn(answer, ";\n"), answer);
+    complain("%s: %s", path, answer);
     if (!refused)
         complain(
             "a request is ROOM; RUN or ROOM; RUN; POOL for a tiny image, "

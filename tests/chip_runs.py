@@ -120,6 +120,7 @@ def choices(desk):
     desk.chip(USAGE, "choose", "-o", "-", "--which", "long", "longer", says="--which and -o - both write to standard output")
     if desk.get("chosen") != desk.get("board"):
         fail("chip choose -o chosen: not the first StructLen bytes")
+    desk.chip(FILES, "choose", "-o", "no-folder/x", "longer", "long", says="no-folder/x: cannot be written: No such file")
     desk.chip(REFUSED, "choose", "tiny", "longer", "-o", "never", says="tiny: refused 20 at 0 (0h)")
     desk.chip(REFUSED, "choose", "tiny", "longer", says="longer: refused 20 at 0 (0h)")
     desk.chip(USAGE, "choose", "-", "-", says="not both")
