@@ -22,7 +22,7 @@ DECISIONS = "docs/DECISIONS.md"
 # documents in which a path that begins with the name of a crate is under crates/
 UNDER_CRATES = ("docs/ARCHITECTURE.md", "docs/CHANGING.md", DECISIONS, "docs/PROMISES.md")
 # made, and not always in the tree
-MADE = re.compile(r"docs/FIGURES\.md$|target/")
+MADE = re.compile(r"target/")
 FOLDERS = ("crates", "chip", "scripts", "tests", "samples", "docs", "bench", ".ci")
 PARTS = ("src", "specs", "proofs", "must-fail")  # folders of a crate
 
