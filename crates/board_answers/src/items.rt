@@ -1,5 +1,6 @@
 // Items by number, and what each step of a walk shows.
-use super::records::put_gpio;
+use super::records::Which;
+use super::records::put_records;
 use super::text::put_data;
 use super::text::put_refusal;
 use super::text::put_run;
@@ -170,7 +171,7 @@ fn put_item(image: &[u8], kinds: Kinds, number: usize) {
         ItemAnswer::Refused(refusal) => put_refusal(refusal),
     }
     put_step(image, kinds, number);
-    put_gpio(image, kinds, number);
+    put_records(image, kinds, Which::Gpio(number));
 }
 
 // The items of the first numbers, at most 24 of them, and those at the count and at two numbers far past it.

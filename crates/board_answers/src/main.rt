@@ -7,7 +7,8 @@ use items::put_items;
 use kinds::Kinds;
 use libc::STDIN_FILENO;
 use octets::le32_at;
-use records::put_map;
+use records::Which;
+use records::put_records;
 use text::put_refusal;
 use verdict::Judged;
 ghost use Prim.Native.Nat.{_≤_};
@@ -32,7 +33,7 @@ fn put_answers(image: &[u8], kinds: Kinds) {
             put_items(image, kinds, 0);
         }
     }
-    put_map(image, kinds);
+    put_records(image, kinds, Which::Map);
 }
 
 // The first n bytes of the input: for each image its list, four bytes, its length, four bytes, and its bytes.

@@ -14,6 +14,12 @@ use console::put_decimal;
 use console::put_number;
 use kinds::Kinds;
 
+// Which records: those of the map, or of the GPIO data of an item.
+pub enum Which {
+    Map,
+    Gpio(usize),
+}
+
 fn put_map_fields(record: MapRecord) {
     put_sixteen(b"MapLabel", record.maplabel);
     put_number(b"Length", record.length as usize);
@@ -51,25 +57,6 @@ fn put_map_record(image: &[u8], kinds: Kinds, number: usize) -> bool {
     }
 }
 
-// The records of the map, up to the first that is refused. An image has less than 65,536.
-fn put_first_maps(image: &[u8], kinds: Kinds) {
-    let mut number = 0;
-    while number < 65536 {
-        if put_map_record(image, kinds, number) {
-            number += 1;
-        } else {
-            return;
-        }
-    }
-}
-
-// The records of the map, and what is answered at two numbers far past them.
-pub fn put_map(image: &[u8], kinds: Kinds) {
-    put_first_maps(image, kinds);
-    put_map_record(image, kinds, FAR);
-    put_map_record(image, kinds, LAST);
-}
-
 // The answer for a record of an item's GPIO data; whether there is one.
 fn put_gpio_record(image: &[u8], kinds: Kinds, item: usize, number: usize) -> bool {
     put(b"gpio ");
@@ -90,11 +77,19 @@ fn put_gpio_record(image: &[u8], kinds: Kinds, item: usize, number: usize) -> bo
     }
 }
 
-// The records of an item, up to the first that is refused.
-fn put_first_gpios(image: &[u8], kinds: Kinds, item: usize) {
+// The answer for a record; whether there is one.
+fn put_record(image: &[u8], kinds: Kinds, which: Which, number: usize) -> bool {
+    match which {
+        Which::Map => put_map_record(image, kinds, number),
+        Which::Gpio(item) => put_gpio_record(image, kinds, item, number),
+    }
+}
+
+// The records up to the first that is refused. An image has less than 65,536.
+fn put_first(image: &[u8], kinds: Kinds, which: Which) {
     let mut number = 0;
     while number < 65536 {
-        if put_gpio_record(image, kinds, item, number) {
+        if put_record(image, kinds, which, number) {
             number += 1;
         } else {
             return;
@@ -102,9 +97,9 @@ fn put_first_gpios(image: &[u8], kinds: Kinds, item: usize) {
     }
 }
 
-// The records of an item, and what is answered at two numbers far past them.
-pub fn put_gpio(image: &[u8], kinds: Kinds, item: usize) {
-    put_first_gpios(image, kinds, item);
-    put_gpio_record(image, kinds, item, FAR);
-    put_gpio_record(image, kinds, item, LAST);
+// The records, and what is answered at two numbers far past them.
+pub fn put_records(image: &[u8], kinds: Kinds, which: Which) {
+    put_first(image, kinds, which);
+    put_record(image, kinds, which, FAR);
+    put_record(image, kinds, which, LAST);
 }

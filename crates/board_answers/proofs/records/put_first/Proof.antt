@@ -1,21 +1,21 @@
--- `records::put_first_gpios` meets its contract: it ends. Assumes nothing.
+-- `records::put_first` meets its contract: it ends. Assumes nothing.
 use Prim.Native.Nat.{_-_}
 use borrow.Author.Needs.{needs}
 use native.Mathlib.Omega.{arith}
-use Rattle.board_answers.proofs.records.put_first_gpios.Statement.{statement}
-use Rattle.board_answers.proofs.records.put_first_gpios.Tie as tie
+use Rattle.board_answers.proofs.records.put_first.Statement.{statement}
+use Rattle.board_answers.proofs.records.put_first.Tie as tie
 
 abbrev Inv-loop : tie.InvT-loop
-Inv-loop image kinds item number₀ number = Unit {0}
+Inv-loop image kinds which number₀ number = Unit {0}
 
 abbrev μ-loop : tie.MeasureT-loop
-μ-loop image kinds item number₀ number = 65536 - number
+μ-loop image kinds which number₀ number = 65536 - number
 
 loop-holds : tie.Need-loop-holds Inv-loop μ-loop
 loop-holds c = tt
 
-put-gpio-record-requires : tie.Need-put-gpio-record-requires Inv-loop μ-loop
-put-gpio-record-requires c κs = omega arith
+put-record-requires : tie.Need-put-record-requires Inv-loop μ-loop
+put-record-requires c κs = omega arith
 
 add-number : tie.Need-add-number Inv-loop μ-loop
 add-number c = omega arith
@@ -32,14 +32,14 @@ returns c = search needs
 returns-2 : tie.Need-returns-2 Inv-loop μ-loop
 returns-2 c = search needs
 
-pub put-first-gpios-spec : {M : Type 1} → statement M
-put-first-gpios-spec =
+pub put-first-spec : {M : Type 1} → statement M
+put-first-spec =
     tie.close
     (tie.spec
     Inv-loop
     μ-loop
     loop-holds
-    put-gpio-record-requires
+    put-record-requires
     add-number
     loop-less
     loop-again
