@@ -1,10 +1,14 @@
 // Makes the images. Their check fields are worked out here bit by bit (tiny) and by zlib (boards), not by the code that is timed.
 #include "images.h"
 
+#include <stdio.h>
 #include <string.h>
 #include <zlib.h>
 
-enum { TINY_LONGEST = 255, HEADER_SIZE = 0x30, MAP_SIZE = 0x50, INFO_SIZE = 0x60, FIRST = HEADER_SIZE + MAP_SIZE + INFO_SIZE };
+enum { TINY_LONGEST = 255, HEADER_SIZE = 0x30, MAP_SIZE = 0x30, RECORD_SIZE = 0x20, LABEL_SIZE = 0x10, INFO_SIZE = 0x60 };
+
+// Where the board structure ends behind a map of one record, and the most records that a map may have: with these it ends at 4,096.
+enum { FIRST = HEADER_SIZE + MAP_SIZE + RECORD_SIZE + INFO_SIZE, MAP_RECORDS = 122 };
 
 // ---- tiny images ----
 
@@ -97,16 +101,30 @@ static uint8_t *head(uint8_t *at, const char *signature, size_t length) {
     return at;
 }
 
-// Header, map of one record, and board, for an image of this length: the rest is to be filled from FIRST on.
-static void begin(uint8_t *image, size_t length) {
+// A record of the map, counted from 0.
+static uint8_t *map_record(uint8_t *image, uint32_t k) {
+    return image + HEADER_SIZE + MAP_SIZE + k * RECORD_SIZE;
+}
+
+// Header, map of so many records, labelled top1, top2 and so on, and board, for an image of this length.
+static void begin_with(uint8_t *image, size_t length, uint32_t records) {
     put32(head(image, "$Eeprom$", HEADER_SIZE) + 0x10, (uint32_t)length);
-    uint8_t *map = head(image + HEADER_SIZE, "$EeprMap", MAP_SIZE);
+    uint8_t *map = head(image + HEADER_SIZE, "$EeprMap", MAP_SIZE + records * RECORD_SIZE);
     memcpy(map + 0x10, "rig$", 4);
     put32(map + 0x20, LONGEST);
-    put32(map + 0x26, LONGEST);
-    memcpy(map + 0x30, "top1$", 5);
-    put32(map + 0x40, 0x20);
-    head(image + HEADER_SIZE + MAP_SIZE, "$BrdInfo", INFO_SIZE);
+    put32(map + 0x26, records * LONGEST);
+    for (uint32_t k = 0; k < records; k++) {
+        uint8_t *record = map_record(image, k);
+        snprintf((char *)record, LABEL_SIZE, "top%u$", k + 1);
+        put32(record + 0x10, RECORD_SIZE);
+        put32(record + 0x14, k * LONGEST);
+    }
+    head(map_record(image, records), "$BrdInfo", INFO_SIZE);
+}
+
+// The same with one record: the rest is to be filled from FIRST on.
+static void begin(uint8_t *image, size_t length) {
+    begin_with(image, length, 1);
 }
 
 // The check over the first bytes of the image, its own field counted as zero; the image's length.
@@ -133,6 +151,13 @@ static size_t add_gpio(uint8_t *image, size_t at, size_t records) {
 static size_t small_board(uint8_t *image) {
     begin(image, FIRST);
     return finish(image, FIRST, FIRST);
+}
+
+// Header, a map of as many records as it may have, and board: 4,096 bytes.
+static size_t map_records(uint8_t *image) {
+    size_t n = FIRST + (MAP_RECORDS - 1) * RECORD_SIZE;
+    begin_with(image, n, MAP_RECORDS);
+    return finish(image, n, n);
 }
 
 // Each kind of structure once, of 160 bytes, GPIO data of eight records, one that no list has, and a signature structure with a hash of 32 bytes.
@@ -186,7 +211,7 @@ static size_t only_heads(uint8_t *image) {
     return finish(image, LONGEST, LONGEST);
 }
 
-// ---- refused ones: one byte of an image that is accepted is changed, and where the rule comes after the check, the check is worked out again ----
+// ---- refused ones: a byte or a label of an image that is accepted is changed, and where the rule comes after the check, the check is worked out again ----
 
 static size_t bad_check_byte(uint8_t *image) {
     size_t n = many_items(image);
@@ -224,9 +249,16 @@ static size_t bad_last_record(uint8_t *image) {
     return finish(image, LONGEST, LONGEST);
 }
 
+static size_t same_last_label(uint8_t *image) {
+    size_t n = map_records(image);
+    memcpy(map_record(image, MAP_RECORDS - 1), map_record(image, MAP_RECORDS - 2), LABEL_SIZE);
+    return finish(image, n, n);
+}
+
 const Maker makers[IMAGES] = {{"typical chip", TINY, typical_chip, 0},
                               {"chip of many items", TINY, many_items, 0},
                               {"small board", BOARD, small_board, 0},
+                              {"122 map records", BOARD, map_records, 0},
                               {"board of every kind", BOARD, every_kind, 0},
                               {"one large structure", BOARD, one_logo, 0},
                               {"64 structures", BOARD, many_kinds, 0},
@@ -237,4 +269,5 @@ const Maker makers[IMAGES] = {{"typical chip", TINY, typical_chip, 0},
                               {"zeros after the board", BOARD, zeros_behind, 23},
                               {"last of 4,082 heads", BOARD, last_unmarked, 23},
                               {"GPIO records, check", BOARD, bad_crc32, 27},
-                              {"last GPIO record", BOARD, bad_last_record, 33}};
+                              {"last GPIO record", BOARD, bad_last_record, 33},
+                              {"last of 122 labels", BOARD, same_last_label, 34}};

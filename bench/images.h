@@ -4,7 +4,7 @@
 
 #include "../tests/reader.h"
 
-enum { LONGEST = 65536, IMAGES = 14 };
+enum { LONGEST = 65536, IMAGES = 16 };
 
 typedef struct {
     const char *name;

@@ -33,10 +33,10 @@ extern "C" {
 
 /* The version of this header; chip_version() is that of the library in a program. */
 #define CHIP_VERSION_MAJOR 1
-#define CHIP_VERSION_MINOR 0
+#define CHIP_VERSION_MINOR 1
 #define CHIP_VERSION_PATCH 0
 #define CHIP_VERSION (CHIP_VERSION_MAJOR * 10000 + CHIP_VERSION_MINOR * 100 + CHIP_VERSION_PATCH)
-#define CHIP_VERSION_TEXT "1.0.0"
+#define CHIP_VERSION_TEXT "1.1.0"
 
 /* The compiler warns where an answer is thrown away. */
 #if defined(__cplusplus) && __cplusplus >= 201703L
@@ -110,6 +110,7 @@ enum {
     CHIP_BOARD_BOARDTYPE = 31,
     CHIP_BOARD_RESERVED = 32,
     CHIP_BOARD_FIELD = 33,
+    CHIP_BOARD_SAME_LABEL = 34, /* told after 30 and before 31 */
 
     CHIP_IMAGE_TOO_LONG = 40,
     CHIP_BUFFER_TOO_SHORT = 41,
@@ -130,8 +131,8 @@ enum {
  *     bits 32 to 39    the number of the refusal; 0: none
  *     bit 40           chip_board_choice alone: 0 for the firmware image, 1 for the EEPROM image
  *
- * The other bits are 0. Where several rules are broken, the first in the papers' table is told, and
- * of the places where it is broken the smallest.
+ * The other bits are 0. Where an image breaks several rules, the lowest number is told, 34 after 30
+ * and before 31, and of the places where that rule is broken the smallest.
  */
 typedef struct chip_answer {
     uint64_t bits;
@@ -145,12 +146,12 @@ CHIP_MUST_USE uint32_t chip_version(void);
 /* How many items a tiny image has; or refused with 1 to 11. */
 CHIP_MUST_USE chip_answer chip_tiny_judge(const uint8_t *image, size_t length, uint32_t kinds);
 
-/* How many structures a board image has; or refused with 20 to 33. */
+/* How many structures a board image has; or refused with 20 to 34. */
 CHIP_MUST_USE chip_answer chip_board_judge(const uint8_t *image, size_t length, uint32_t kinds);
 
 /* Which of two board images a rig goes by, and its length: that many bytes from its first, which
    may be fewer than were lent. If neither is accepted, the refusal of the firmware image, with 20
-   to 33. */
+   to 34. */
 CHIP_MUST_USE chip_answer chip_board_choice(const uint8_t *firmware, size_t firmware_length,
                                             const uint8_t *eeprom, size_t eeprom_length,
                                             uint32_t kinds);
@@ -250,6 +251,8 @@ CHIP_MUST_USE static inline const char *chip_refusal_text(unsigned number) {
         return "a reserved byte is not zero";
     case CHIP_BOARD_FIELD: /* at its start, the field, or the label's bad byte */
         return "a structure is too short, or a field of it is wrong";
+    case CHIP_BOARD_SAME_LABEL: /* at the first label that equals an earlier one */
+        return "two map records have the same label";
     /* the writers, and what is asked for by number: at 0, but for the last two */
     case CHIP_IMAGE_TOO_LONG:
         return "the image would have over 255 bytes, or as a board over 65536";

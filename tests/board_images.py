@@ -32,6 +32,9 @@ RESERVED = {EEPROM: (0x20, 0x30), MAP: (0x2D, 0x30), BOARD: (0x4D, 0x60), PROMSI
 RECORD = {MAP: (0x20, 0x19), GPIO: (0x30, 0x22)}  # the size of a record, and where its reserved bytes start
 HASHES = {0: 0x00, 1: 0x10, 2: 0x14, 3: 0x20, 4: 0x30, 5: 0x40}
 SIGNED = 0x8000
+CHARACTERS = bytes(c for c in range(0x20, 0x7F) if c != 0x24)  # of a label's text
+RULES = (*range(20, 31), 34, 31, 32, 33)  # in their order: of several that are broken the first counts
+ASK_LIST = (32, 33)  # the rules that ask the list
 
 
 # ---- building ----
@@ -107,6 +110,19 @@ class Board:
     def records(self):
         return (len(self.parts[1]) - 0x30) // 0x20
 
+    def record(self, k):
+        """The place of the map's record k, which is that of its label."""
+        return self.at(1) + 0x30 + 0x20 * k
+
+    def labels(self):
+        """The labels of the map's records."""
+        return [bytes(self.parts[1][0x30 + 0x20 * k:0x40 + 0x20 * k]) for k in range(self.records())]
+
+    def relabel(self, labels):
+        """Gives each of the map's records another label."""
+        for k, label in enumerate(labels):
+            self.parts[1][0x30 + 0x20 * k:0x40 + 0x20 * k] = label
+
     def fit(self, block=None):
         """BlkLength (as small as may be unless given), PartSize and Offsets that hold the whole image; again after a change of lengths."""
         n = self.records() if self.parts[1][:8] == MAP else 0
@@ -170,13 +186,32 @@ def unused(rnd, minor, n):
 
 def text(rnd, n):
     """Characters of a label."""
-    every = bytes(c for c in range(0x20, 0x7F) if c != 0x24)
-    letters = rnd.choice([b'"\\', b'a"b\\c ', b" ", b"\x20\x7e", b"rig-0123456789"] + [every] * 5)
+    letters = rnd.choice([b'"\\', b'a"b\\c ', b" ", b"\x20\x7e", b"rig-0123456789"] + [CHARACTERS] * 5)
     return bytes(rnd.choice(letters) for _ in range(n))
 
 
 def some_label(rnd):
     return labelled(text(rnd, rnd.choice([0, 1, 2, 4, 7, 8, 14, 15, 15, 16, 16, rnd.randint(0, 16)])))
+
+
+def near_label(rnd, label):
+    """A label with one character of another replaced or taken away, or with one more."""
+    front = label.split(b"$")[0]
+    p = rnd.choice([0, 7, 8, len(front) - 1, rnd.randrange(16)])
+    if 0 <= p < len(front):
+        return labelled(front[:p] + text(rnd, rnd.choice([0, 1, 1])) + front[p + 1:])
+    return labelled(front + text(rnd, 1))
+
+
+def some_labels(rnd, n, apart=()):
+    """Labels of n records: no two are the same, and none is one of those in apart. Some are nearly another."""
+    out, taken = list(apart), set(apart)
+    while len(out) < len(apart) + n:
+        label = near_label(rnd, rnd.choice(out)) if out and rnd.random() < 0.3 else some_label(rnd)
+        if label not in taken:
+            out.append(label)
+            taken.add(label)
+    return out[len(apart):]
 
 
 def some_name(rnd, size=16):
@@ -192,9 +227,10 @@ def some_header(rnd):
 
 def some_map(rnd, n=None):
     n = rnd.choice([1, 1, 1, 2, 2, 3, 5, 8]) if n is None else n
-    minor = some_minor(rnd)
-    records = [map_record(some_label(rnd), rnd.choice([0, 0x50, 0x7F, rnd.randint(0, 0x7F)]), unused(rnd, minor, 7)) for _ in range(n)]
-    return eeprom_map(some_label(rnd), some_number(rnd, 2), some_number(rnd, 1), rnd.randint(0, 1), rnd.randint(0, 3), records,
+    minor, labels = some_minor(rnd), some_labels(rnd, n)
+    records = [map_record(label, rnd.choice([0, 0x50, 0x7F, rnd.randint(0, 0x7F)]), unused(rnd, minor, 7)) for label in labels]
+    part = rnd.choice(labels) if rnd.random() < 0.2 else some_label(rnd)
+    return eeprom_map(part, some_number(rnd, 2), some_number(rnd, 1), rnd.randint(0, 1), rnd.randint(0, 3), records,
                       minor, unused(rnd, minor, 3))
 
 
@@ -316,7 +352,7 @@ def good_labels(rnd):
 
 
 def spots(board, rule):
-    """Where one change breaks a rule from 24 to 33 in a good board, by the places of its parts: (refusal's place, place, bytes)."""
+    """Where one change breaks a rule from 24 on in a good board, by the places of its parts: (refusal's place, place, bytes)."""
     out, last = [], board.last()
     for k, part in enumerate(board.parts):
         at, kind = board.at(k), bytes(part[:8])
@@ -336,6 +372,9 @@ def spots(board, rule):
                 offset = le(1, 4) if r == records[0] else bytes(4)
                 fields = [(p, b"\xff") for p in (0, 7, 15)] + [(0x10, le(0x21, 4)), (0x14, offset), (0x18, b"\x80")]
                 out += [(r + f, r + f, data) for f, data in fields]
+        if rule == 34 and k == 1:  # the label of an earlier record, so that of several such changes the first in place stays
+            labels = board.labels()
+            out += [(r, r, labels[j]) for i, r in enumerate(records) for j in range(i)]
         if rule == 31 and kind == BOARD:
             out.append((at + 0x4C, at + 0x4C, b"\x02"))
         if rule == 32 and known and part[10:12] == bytes(2):
@@ -709,7 +748,7 @@ def rule_28(rnd):
         board = some(rnd, some_others(rnd, rnd.choice([0, 0, 2])), n)
         changes = []
         if n > 122 and rnd.random() < 0.5:
-            changes = [s[1:] for s in rnd.sample(spots(board, rnd.choice([30, 31])), 1)]
+            changes = [s[1:] for s in rnd.sample(spots(board, rnd.choice([30, 34, 31])), 1)]
         yield lend(rnd, board.image(*changes)), good(board) if n <= 122 else refused(28, board.at(2))
 
 
@@ -741,7 +780,10 @@ def rule_30_labels(rnd):
         variants = [(p, label) for p, label in bad_labels(rnd)] + [(None, label) for label in good_labels(rnd)]
         rnd.shuffle(variants)
         for p, label in variants:
-            board = some(rnd, records=rnd.choice([None, None, 1, 12]))
+            n = rnd.choice([None, None, 1, 12])
+            board = some(rnd, records=n)
+            while label in board.labels():  # which would be another record's
+                board = some(rnd, records=n)
             at = map_label(rnd, board)
             yield lend(rnd, board.image((at, label))), good(board) if p is None else refused(30, at + p)
 
@@ -820,6 +862,99 @@ def rule_30_fields(rnd):
             change, bad = (record + 0x18, bytes([v])), record + 0x18 if v > 0x7F else None
         image = board.image(change) if change else board.image()
         yield lend(rnd, image), good(board) if bad is None else refused(30, bad)
+
+
+def shared(n):
+    """Which of n records may have one label: groups of their numbers in ascending order, up to two groups at once."""
+    last = n - 1
+    out = [[(0, 1)], [(last - 1, last)], [(0, last)], [tuple(range(n))]]
+    if n > 2:
+        out += [[(0, 1, last)], [(0, n // 2, last)]]
+    if n > 3:
+        out += [[(0, 1), (last - 1, last)], [(0, last), (1, 2)], [(0, last - 1), (1, last)]]
+    if n > 4:
+        out += [[(0, last), (1, 2, 3)], [(1, last), (0, 2, 3)]]
+    return out
+
+
+def repeated(groups):
+    """The number of the first record whose label is that of an earlier one: the second of some group."""
+    return min(group[1] for group in groups)
+
+
+def same_labels(rnd, n, groups, first):
+    """Labels of n records: that of the first group, one for each other group, and else no two the same."""
+    labels = some_labels(rnd, n, [first])
+    for group in groups:
+        label = first if group is groups[0] else labels[group[0]]
+        for k in group:
+            labels[k] = label
+    return labels
+
+
+def changed(rnd, label, places):
+    """A label of sixteen characters with another character at each of these places."""
+    return bytes(rnd.choice(CHARACTERS.replace(label[p:p + 1], b"")) if p in places else label[p] for p in range(16))
+
+
+def near_labels(rnd, n, how, v, part):
+    """Labels of n records, no two the same: two that differ in the bytes v alone, or in a character that one has more behind v others; one
+    that is PartLabel; or all with the same first or last eight bytes."""
+    if how == "half":
+        half, numbers = text(rnd, 8), [b"%08d" % number for number in rnd.sample(range(10 ** 8), n)]
+        return [half + number if v == "first" else number + half for number in numbers]
+    if how == "PartLabel":
+        pair = [part]
+    elif how == "bytes":
+        one = text(rnd, 16)
+        pair = [one, changed(rnd, one, v)]
+    else:
+        front = text(rnd, v)
+        pair = [labelled(front), labelled(front + text(rnd, 1))]
+    rnd.shuffle(pair)
+    labels = some_labels(rnd, n, pair)
+    where = rnd.choice([(0, 1), (n - 2, n - 1), (0, n - 1), sorted(rnd.sample(range(n), 2))])
+    for k, label in zip(where, pair):
+        labels[k] = label
+    return labels
+
+
+def rule_34(rnd):
+    """Records of one label: two, three and all, next to each other and far apart, several pairs. And good ones: labels that are nearly the
+    same, a label that is PartLabel, one that two GPIO records have. Each by itself, with a break of 30, which comes first, or of 31, 32 or
+    33, which come later."""
+    counts = (2, 3, 4, 5, 12, 122)
+    variants = [(n, groups, label) for n in counts for groups in shared(n) for label in ("any", "empty", "sixteen", "PartLabel", "bad")]
+    near = [("bytes", (p,)) for p in range(16)] + [("bytes", range(8)), ("bytes", range(8, 16))] * 2
+    near += [("more", v) for v in range(16)] + [("half", "first"), ("half", "last"), ("PartLabel", None)] * 4
+    variants += [(None, None, v) for v in near + [GPIO] * 4]
+    for n, groups, v in cycle(rnd, variants):
+        n = n or rnd.choice(counts)
+        beside = rnd.choice([None] * 4 + [30, 31, 32, 33])
+        board = rich(rnd, n) if beside in ASK_LIST else some(rnd, records=n)
+        part = bytes(board.parts[1][0x10:0x20])
+        bad, wrong = rnd.choice(list(bad_labels(rnd)))
+        if groups:
+            first = {"empty": labelled(b""), "sixteen": text(rnd, 16), "PartLabel": part}.get(v, some_label(rnd))
+            labels = same_labels(rnd, n, groups, first)
+            board.relabel(wrong if v == "bad" and label == first else label for label in labels)
+        elif v == GPIO:
+            board.parts.insert(3, structure(GPIO, bytes(16) + 2 * some_gpio(rnd, label=rnd.choice(board.labels()))))
+            board.fit()
+        else:
+            board.relabel(near_labels(rnd, n, *v, part))
+        if rnd.random() < 0.3:
+            board.parts[1][10:12] = le(rnd.choice([1, 2, 256, 65535]), 2)  # which lifts rule 32 alone
+        broken = [(34, board.record(repeated(groups)))] if groups else []
+        if v == "bad":
+            broken = [(30, board.record(groups[0][0]) + bad)]
+        changes = []
+        if beside and (beside, v) != (30, "bad"):
+            place, *change = rnd.choice(spots(board, beside))
+            broken.append((beside, place))
+            changes.append(change)
+        said = refused(*min(broken, key=lambda one: RULES.index(one[0]))) if broken else good(board)
+        yield lend(rnd, board.image(*changes)), said
 
 
 def rule_31(rnd):
@@ -938,8 +1073,8 @@ def rich(rnd, records=None, signed=None):
 
 def two_places(rnd):
     """One rule broken at several places: the smallest counts."""
-    for rule in cycle(rnd, [24, 26, 30, 30, 32, 32, 33, 33]):
-        board = rich(rnd)
+    for rule in cycle(rnd, [24, 26, 30, 30, 34, 32, 32, 33, 33]):
+        board = rich(rnd, rnd.choice([3, 4, 8, 12]) if rule == 34 else None)
         where = spots(board, rule)
         if len(where) < 2:
             continue
@@ -964,16 +1099,18 @@ def two_structures(rnd):
 
 
 def two_rules(rnd):
-    """Two or three rules broken at any places: the lowest number counts."""
-    for low, high in cycle(rnd, [(a, b) for a in range(21, 34) for b in range(a + 1, 34)]):
-        broken = {low, high} | {rule for rule in rnd.sample(range(21, 34), rnd.choice([0, 0, 1])) if rule > low}
-        board = rich(rnd, rnd.choice([123, 124]) if 28 in broken else None, True if 29 in broken else None)
+    """Two or three rules broken at any places: the first in their order counts. Its change is made last, and so stays."""
+    for low, high in cycle(rnd, itertools.combinations(RULES[1:], 2)):
+        later = RULES[RULES.index(low) + 1:]
+        broken = {low, high} | {rule for rule in rnd.sample(RULES[1:], rnd.choice([0, 0, 1])) if rule in later}
+        records = [123, 124] if 28 in broken else [2, 2, 3, 5, 8] if 34 in broken else [None]
+        board = rich(rnd, rnd.choice(records), True if 29 in broken else None)
         if 25 in broken:
             again = rnd.choice([some_map, some_board, some_header])(rnd)
             board.parts.insert(rnd.randint(3, board.last()), again)
             board.fit()
         where, changes = {}, []
-        for rule in sorted(broken):
+        for rule in sorted(broken, key=RULES.index, reverse=True):
             if rule == 21:
                 where[rule] = 0
                 changes.append(rnd.choice([(1, b"e"), (8, le(2, 2)), (12, le(0x20, 4))]))
@@ -1162,13 +1299,14 @@ def case_13():
 
 
 def paper_cases(_):
-    """Cases 12 and 13 of the build paper, and the numbers of records beside 122."""
+    """Cases 12 and 13 of the build paper, the numbers of records beside 122, and two records that are both labelled top1."""
     while True:
         yield case_13(), "accepted 3"
         for n in (121, 122):
             yield plain(n).image(), "accepted 3"
         for n in (123, 124):
             yield plain(n).image(), refused(28, 0x60 + 0x20 * n)
+        yield plain(2, labels=(b"top1", b"top1")).image(), refused(34, 0x80)
 
 
 def sample_images():
@@ -1197,7 +1335,7 @@ def sample_images():
            25: Board([header(4), plain().parts[1]], 4096).image(), 26: plain().image((0x88, le(2, 2))),
            27: with_crc(case_13(), crc_of(case_13(), 0xE0) ^ 1), 28: plain(123).image(), 29: signed_badly.image(),
            30: plain().image((0x64, b"\0")), 31: plain().image((0x80 + 0x4C, b"\2")), 32: board.image((board.at(3) + 0x13, b"\1")),
-           33: board.image((board.at(3) + 0x10, b"\5"))}
+           33: board.image((board.at(3) + 0x10, b"\5")), 34: plain(3, labels=(b"top1", b"top2", b"top1")).image()}
     out.update(("refused-%d" % number, image) for number, image in bad.items())
     return out
 
@@ -1217,13 +1355,17 @@ def record(mask, image):
 
 
 def gate_records():
-    """Case 12 and one record more; the samples with the full and with the bare list; what is beside case 13; a structure of each listed
-    kind with several lists; and of each group a good image and a bad one, if it has both."""
+    """Case 12, one record more, and its last label twice; the samples with the full and with the bare list; what is beside case 13; records
+    of nearly one label and of one; a structure of each listed kind with several lists; and of each group a good image and a bad one, if it
+    has both."""
     rnd = random.Random("records")
     case, every = case_13(), [structure(kind, bytes(0x20)) for kind in LISTED]
-    out = [record(FULL, plain(n).image()) for n in (122, 123)]
+    twice = [b"top%d" % min(k, 121) for k in range(1, 123)]
+    out = [record(FULL, board.image()) for board in (plain(122), plain(123), plain(122, labels=twice))]
     out += [record(mask, image) for image in sample_images().values() if len(image) < 4096 for mask in (FULL, 0)]
     out += [record(FULL, image) for image in (case[:0x2F], case[:0x30], case + b"\0", plain(2).image(), b"")]
+    labels = ((b"rig", b"top1"), (b"", b""), (b"", b" "), (b"a" * 15, b"a" * 16), (b"a" * 16, b"a" * 16), (b"a", b"b", b"b", b"a"))
+    out += [record(FULL, plain(len(texts), labels=texts).image()) for texts in labels]
     out += [record(mask, plain(1, every).image()) for mask in (FULL, 0, 0xFF, FULL - 0x400, 0x400, 0x10000, 0x155AA)]
     for group, *_ in GROUPS:
         if group in (large, rule_28):
@@ -1241,17 +1383,16 @@ def gate_records():
 GROUPS = [(good_mixed, 8, 1), (good_each_kind, 3, 1), (good_lengths, 3, 1), (good_records, 2, 1), (good_unknown, 2, 1), (good_near, 1, 1),
           (good_many, 1, 2), (good_names, 1, 1), (rule_20, 2, 1), (rule_21, 2, 1), (rule_22, 2, 1), (rule_23, 6, 1), (rule_24, 4, 1),
           (rule_25, 5, 1), (rule_26, 4, 1), (rule_27, 6, 1), (rule_28, 1, 2), (rule_29, 5, 1), (rule_30_labels, 5, 1),
-          (rule_30_fields, 6, 1), (rule_31, 1, 1), (rule_32, 10, 1), (cut_fields, 5, 1), (rule_33_fields, 4, 1), (rule_33_labels, 4, 1),
-          (rule_33_cut, 2, 1), (two_places, 4, 1), (two_structures, 1, 1), (two_rules, 6, 1), (truncations, 3, 1),
+          (rule_30_fields, 6, 1), (rule_34, 7, 1), (rule_31, 1, 1), (rule_32, 10, 1), (cut_fields, 5, 1), (rule_33_fields, 4, 1),
+          (rule_33_labels, 4, 1), (rule_33_cut, 2, 1), (two_places, 4, 1), (two_structures, 1, 1), (two_rules, 6, 1), (truncations, 3, 1),
           (truncations_checked, 5, 1), (mutated, 5, 1), (mutated_heads, 4, 1), (random_behind_header, 3, 1), (random_structures, 4, 1),
           (large, 1, 4)]
 
 
 def images(seed):
     """All images, for ever: (group, image, what the full list answers)."""
-    cases = paper_cases(None)
-    for _ in range(5):
-        yield ("paper_cases",) + next(cases)
+    for case in itertools.islice(paper_cases(None), 6):
+        yield ("paper_cases",) + case
     running = [(g.__name__, g(random.Random("%s %s" % (seed, g.__name__))), n, every) for g, n, every in GROUPS]
     turn = 0
     while True:

@@ -23,15 +23,15 @@ import random
 import sys
 
 import board_images
-from board_images import BOARD, EEPROM, FPGA, FULL, GPIO, HASHES, LISTED, LONGEST, LOGO, MAP, PROMSIG, RESERVED, SIGNED
-from board_images import Board, crc_of, cut_points, labelled, le, lend, plain, rich, some, some_bytes, some_known
-from board_images import some_label, some_map, some_name, some_number, some_others, some_promsig, some_unknown, spots, structure, up
-from board_images import with_crc
+from board_images import ASK_LIST, BOARD, EEPROM, FPGA, FULL, GPIO, HASHES, LISTED, LONGEST, LOGO, MAP, PROMSIG, RESERVED, SIGNED
+from board_images import Board, crc_of, cut_points, labelled, le, lend, plain, repeated, rich, same_labels, shared, some, some_bytes
+from board_images import some_known, some_label, some_map, some_name, some_number, some_others, some_promsig, some_unknown, spots, structure
+from board_images import up, with_crc
 from tiny_images import cycle
 from tiny_runs import blanks, in_hex, refused, written
 
 MOST = 65600  # bytes in a buffer, in a run of records and in further bytes
-ORDER = (46, 40, 41, 23, 24, 25, 26, 28, 29, 30, 31, 32, 33, 45)  # which refusal is given if several apply
+ORDER = (46, 40, 41, 23, 24, 25, 26, 28, 29, 30, 34, 31, 32, 33, 45)  # which refusal is given if several apply
 GIVEN = 17  # bytes of a record in a run
 PART_SIZE = 0x30 + 0x26  # its place
 
@@ -149,7 +149,7 @@ def carried(number, place, n):
         return n == 0 and place == 0x30 or place >= front(n)
     if number == 30:  # not the Length and the Offset of a record
         return place < 0x60 or (place - 0x60) % 0x20 not in (0x10, 0x14)
-    return number in (28, 31) or number in (23, 24, 25, 29, 32, 33) and place >= front(n)
+    return number in (28, 34, 31) or number in (23, 24, 25, 29, 32, 33) and place >= front(n)
 
 
 def said_of(image, n, said, alone):
@@ -328,6 +328,27 @@ def rule_26_none(rnd):
         yield due(rnd, request._replace(fields=fields, names=names, records=b""), 26, 0x30)
 
 
+def rule_34(rnd):
+    """Records of one label, at the place of the label in the image; beside 46, 40, 41 or 28, which come first, and 31, 32 or 33."""
+    variants = [(n, groups, part) for n in (2, 3, 5, 12, 122) for groups in shared(n) for part in ("alone", "alone", "later")]
+    variants += [(n, [group], part) for n in (2, 12, 123) for group in ((0, 1), (0, n - 1)) for part in (46, 40, 41, 28)]
+    for n, groups, part in cycle(rnd, variants):
+        board = as_written(rich(rnd, n, False)) if part == "later" else some_writable(rnd, rnd.choice([[], None]), n)
+        board.relabel(same_labels(rnd, n, groups, rnd.choice([labelled(b""), some_label(rnd), some_label(rnd)])))
+        number, place, changes = 34, board.record(repeated(groups)), []
+        if n > 122:
+            number, place = 28, board.at(2)
+        if part == "later":
+            changes = [rnd.choice(broken_spots(board, rule))[1:] for rule in rnd.sample((31, 32, 33), rnd.choice([1, 1, 3]))]
+        request = asked(board, *changes)
+        if part == 46:
+            request = request._replace(records=request.records + bytes(rnd.randint(1, 16)))
+        elif part == 40:
+            request = request._replace(further=bytes(filling(rnd, LONGEST + rnd.choice([1, 16]) - front(n))))
+        total = size_of(request)
+        yield answered(request, rnd.choice([0, total - 1]) if part == 41 else min(MOST, enough(rnd, total)), number, place)
+
+
 def given_fields(rnd):
     """Every byte of the parts of fixed length: each value of a byte that has no bound, both sides of the bound where there is one."""
     variants = [("version", p, 256) for p in range(4)] + [("names", p, 256) for p in range(60)] + [("names", 60, 2)]
@@ -355,12 +376,12 @@ def broken_spots(board, rule):
 
 
 def several(rnd):
-    """Two or more refusals at once, in any order of place: the first of ORDER counts."""
+    """Two or more refusals at once, in any order of place: the first of ORDER counts. Its change is made last, and so stays."""
     variants = [pair for pair in itertools.combinations(ORDER, 2) if 40 not in pair] * 3 + [(40, other) for other in ORDER if other != 40]
     variants += [ORDER, (41, *ORDER[3:]), ORDER[3:]] + [tuple(rnd.sample(ORDER[2:], 3)) for _ in range(60)]
     for broken in cycle(rnd, variants):
-        records = rnd.choice([123, 124]) if 28 in broken else None
-        board = rich(rnd, records, any(rule in broken for rule in (26, 29, 45)))
+        records = [123, 124] if 28 in broken else [2, 2, 3, 5, 8] if 34 in broken else [None]
+        board = rich(rnd, rnd.choice(records), any(rule in broken for rule in (26, 29, 45)))
         again = rnd.choice([board_images.some_header, some_map, board_images.some_board, some_promsig])(rnd)
         if 25 in broken:
             board.parts.insert(rnd.randint(3, board.last()), again)
@@ -369,7 +390,7 @@ def several(rnd):
         board.fit()
         as_written(board)
         where, changes = {46: 0, 40: 0, 41: 0}, []
-        for rule in set(broken) - set(where):
+        for rule in sorted(set(broken) - set(where), key=ORDER.index, reverse=True):
             if rule == 23:
                 where[rule] = board.at(rnd.randint(3, board.last()))
                 changes.append(rnd.choice([(where[rule], b"E"), (where[rule] + 12, le(15, 4)), (where[rule] + 12, le(LONGEST, 4))]))
@@ -439,7 +460,7 @@ def random_parts(rnd):
 
 
 def paper_cases(_):
-    """Cases 12 and 13 of the build paper, and what is beside them."""
+    """Cases 12 and 13 of the build paper, and what is beside them; two records that are both labelled top1."""
     case = asked(plain())
     sig = structure(PROMSIG, le(3, 2) + bytes(14) + bytes(range(32)))
     while True:
@@ -450,11 +471,13 @@ def paper_cases(_):
         yield 4096, asked(plain(122)), written(4096, plain(122).image())
         yield 4128, asked(plain(123)), refused(4128, 28, 0xFC0)
         yield 0x120, asked(plain(1, [sig])), refused(0x120, 45, 0xE0)
+        yield 0x100, asked(plain(2, labels=(b"top1", b"top1"))), refused(0x100, 34, 0x80)
 
 
 # a group, how many requests it gives in a turn, and in which turns (every so many)
 GROUPS = [(good_records, 5, 1), (good_further, 8, 1), (rooms, 6, 1), (rule_46, 6, 1), (rule_40, 1, 1), (rule_45, 7, 1), (rule_23, 4, 1),
-          (rule_26_none, 1, 1), (given_fields, 7, 1), (several, 9, 1), (record_truncations, 4, 1), (further_truncations, 8, 1),
+          (rule_26_none, 1, 1), (rule_34, 4, 1), (given_fields, 7, 1), (several, 9, 1), (record_truncations, 4, 1),
+          (further_truncations, 8, 1),
           (made_of(board_images.good_mixed), 4, 1), (made_of(board_images.good_each_kind), 3, 1),
           (made_of(board_images.good_lengths), 2, 1), (made_of(board_images.good_unknown), 2, 1),
           (made_of(board_images.good_near), 2, 1), (made_of(board_images.good_many), 1, 2),
@@ -462,7 +485,8 @@ GROUPS = [(good_records, 5, 1), (good_further, 8, 1), (rooms, 6, 1), (rule_46, 6
           (made_of(board_images.rule_24), 4, 1), (made_of(board_images.rule_25), 3, 1), (made_of(board_images.rule_26, True), 2, 1),
           (made_of(board_images.rule_27, True), 2, 1), (made_of(board_images.rule_28), 1, 2), (made_of(board_images.rule_29), 4, 1),
           (made_of(board_images.rule_30_labels), 5, 1), (made_of(board_images.rule_30_fields, True), 5, 1),
-          (made_of(board_images.rule_31), 1, 1), (made_of(board_images.rule_32, True), 6, 1), (made_of(board_images.cut_fields), 3, 1),
+          (made_of(board_images.rule_34), 4, 1), (made_of(board_images.rule_31), 1, 1), (made_of(board_images.rule_32, True), 6, 1),
+          (made_of(board_images.cut_fields), 3, 1),
           (made_of(board_images.rule_33_fields), 3, 1), (made_of(board_images.rule_33_labels), 3, 1),
           (made_of(board_images.rule_33_cut), 2, 1), (made_of(board_images.two_places), 3, 1), (made_of(board_images.two_structures), 1, 1),
           (made_of(board_images.two_rules), 2, 1), (made_of(board_images.mutated), 2, 1), (made_of(board_images.mutated_heads), 1, 1),
@@ -481,7 +505,7 @@ def in_turn(seed, groups):
 
 def requests(seed):
     """All requests, for ever: (room, request, the answer or None)."""
-    for room, request, answer in itertools.chain(itertools.islice(paper_cases(None), 7), in_turn(seed, GROUPS)):
+    for room, request, answer in itertools.chain(itertools.islice(paper_cases(None), 8), in_turn(seed, GROUPS)):
         assert (len(request.version), len(request.fields), len(request.names)) == (4, 29, 61)
         assert max(room, len(request.records), len(request.further)) <= MOST
         yield room, request, answer
@@ -620,7 +644,8 @@ def choice_places(rnd):
 def images_with(rnd, word):
     """The images of board_images that are accepted, or refused whatever the list."""
     for _, image, said in board_images.images(rnd.random()):
-        if said.startswith(word) and (word == "accepted" or int(said.split()[1]) < 32) and (len(image) < 6000 or rnd.random() < 0.1):
+        wanted = said.startswith(word) and (word == "accepted" or int(said.split()[1]) not in ASK_LIST)
+        if wanted and (len(image) < 6000 or rnd.random() < 0.1):
             yield image, said
 
 
@@ -678,6 +703,20 @@ def choice_lists(rnd):
             yield chosen_of(rnd, pair, by_version(pair[1]) > by_version(pair[0]), mask)
 
 
+def choice_labels(rnd):
+    """Records of one label in one of the images or in both: that image is refused, whatever the list and the Versions."""
+    for which in cycle(rnd, [(0,), (1,), (0, 1)]):
+        n = rnd.choice([2, 3, 8])
+        pair, groups = twins(rnd, rnd.choice(VERSIONS), records=n), [rnd.choice(shared(n)) for _ in range(2)]
+        for side in which:
+            pair[side].relabel(same_labels(rnd, n, groups[side], some_label(rnd)))
+        if len(which) == 1:
+            yield chosen_of(rnd, pair, which == (0,))
+        else:
+            place = pair[0].record(repeated(groups[0]))
+            yield some_list(rnd), lend(rnd, pair[0].image()), lend(rnd, pair[1].image()), "neither 34 %d" % place
+
+
 def choice_signed(rnd):
     """With a $PromSig on one side, on both, on none: it makes no difference."""
     for signed in cycle(rnd, [(False, True), (True, False), (True, True)]):
@@ -717,7 +756,7 @@ def counted(image):
 
 def said_of_two(firmware, a, eeprom, b):
     """What is due, given what the judge says of each image with the full list; None where it did not say, or asked the list."""
-    if any(said == "?" or said.startswith("refused") and int(said.split()[1]) >= 32 for said in (a, b)):
+    if any(said == "?" or said.startswith("refused") and int(said.split()[1]) in ASK_LIST for said in (a, b)):
         return None
     if a.startswith("refused") and b.startswith("refused"):
         return a.replace("refused", "neither")
@@ -761,8 +800,8 @@ def paper_pairs(_):
 
 # as GROUPS
 PAIRS = [(choice_versions, 8, 1), (choice_copies, 6, 1), (choice_fields, 14, 1), (choice_places, 3, 1), (choice_one, 8, 1),
-         (choice_neither, 5, 1), (choice_lists, 9, 1), (choice_signed, 2, 1), (choice_lent, 2, 1), (choice_any, 6, 1),
-         (choice_mutated, 5, 1)]
+         (choice_neither, 5, 1), (choice_lists, 9, 1), (choice_labels, 3, 1), (choice_signed, 2, 1), (choice_lent, 2, 1),
+         (choice_any, 6, 1), (choice_mutated, 5, 1)]
 
 
 def pairs(seed):
@@ -787,7 +826,7 @@ def case_with(part, p, byte):
 
 
 def gate_requests():
-    """Cases 12 and 13, what is beside them, each refusal but 40 (its line would be too long), several at once."""
+    """Cases 12 and 13, what is beside them, records of one label, each refusal but 40 (its line would be too long), several at once."""
     case, fan, bare = asked(plain()), structure(b"$Fan", b"\1\2\3"), structure(b"$Fan", b"")
     fpga = structure(FPGA, b"\x03\x01\x02" + bytes(13) + b"x")
     gpio = structure(GPIO, bytes(16) + board_images.gpio_record(labelled(b"lamp"), 0x1C0, 0xFFFFFFFE, 1, 4, 1))
@@ -796,6 +835,11 @@ def gate_requests():
     kinds = plain(2, [fpga, gpio, fan, structure(LOGO, b"\xff" * 5, 2)])
     out = [(room, case) for room in (0xE0, 0xE2, 0xDF, 0)] + [(4096, asked(plain(122))), (4128, asked(plain(123)))]
     out += [(kinds.end() + d, asked(kinds)) for d in (0, 1, -1)]
+    twice = asked(plain(2, labels=(b"top1", b"top1")))
+    out += [(0x100, twice), (0xFF, twice), (0x100, twice._replace(records=twice.records + b"\0"))]
+    out += [(0x120, asked(plain(3, labels=texts))) for texts in ((b"top1", b"top2", b"top1"), (b"", b"", b"rig"), (b"", b" ", b"rig"))]
+    out += [(0x120, twice._replace(names=twice.names[:-1] + b"\2", further=further)) for further in (
+        b"", bytes(structure(FPGA, b"\5" + bytes(15))), bytes(structure(LOGO, b"\1" * 16)), bytes(16))]
     out += [(256, case._replace(records=run)) for run in (b"", case.records[:16], case.records + b"\0", case.records * 2, bytes(17))]
     out += [(256, case._replace(further=more)) for more in (bytes(16), bytes(1), bytes(bare) + bytes(16), bytes(bare)[:15])]
     out.append((300, case._replace(further=bytes(fan) + b"\1" + bytes(12) + bytes(bare))))
@@ -825,7 +869,8 @@ def gate_lines():
 
 
 def gate_pairs():
-    """Case 11 and what is beside it; one or both refused; lists with which one is refused; lent past StructLen; a record that is cut."""
+    """Case 11 and what is beside it; one or both refused; records of one label; lists with which one is refused; lent past StructLen; a
+    record that is cut."""
     def versioned(version, *others, records=1):
         return plain(records, others, version=version).image()
 
@@ -842,6 +887,8 @@ def gate_pairs():
     out += [(FULL, versioned(a), versioned(b)) for a, b in ((0x7FFFFFFF, 0x80000000), (0x80000000, 1), (255, 256))]
     out += [(FULL, three + b"\xff" * 9, versioned(4, sig, records=2) + b"$"), (FULL, versioned(5, sig) + bytes(40), four)]
     out += [(FULL, three[:-1], four), (FULL, four, b""), (FULL, four[:0x2F], three[:-1]), (FULL, changed(0x4C, 2), four + b"\0")]
+    twice, thrice = (plain(len(texts), version=9, labels=texts).image() for texts in ((b"top1", b"top1"), (b"top1", b"top2", b"top1")))
+    out += [(mask, *pair) for mask in (FULL, 0) for pair in ((twice, four), (four, twice), (twice, thrice), (thrice, twice))]
     for mask in (FULL, FULL - fpga_bit, FULL - fpga_bit - logo_bit):
         out += [(mask, fpga, logo), (mask, logo, fpga), (mask, four, fpga)]
     return b"".join(record(*pair) for pair in out) + record(FULL, four, three)[:-1]

@@ -1,6 +1,6 @@
 /*
- * The cases of paper 01 through C: what the functions of chip/chip.h must answer, as the paper has it; and the version. Exit: 0 if they do, 1 at the first
- * that does not.
+ * The cases of paper 01 through C: what the functions of chip/chip.h must answer, as the paper has it; the same label twice, as in paper 02; and the version.
+ * Exit: 0 if they do, 1 at the first that does not.
  */
 #include <inttypes.h>
 #include <stdio.h>
@@ -9,7 +9,7 @@
 
 #include "../chip/chip.h"
 
-enum { FULL = CHIP_KINDS_FULL, ROOM = 8192, HEADER = 0x30, MAP = 0x30, RECORD = 0x20, BOARD = 0x60 };
+enum { FULL = CHIP_KINDS_FULL, ROOM = 8192, HEADER = 0x30, MAP = 0x30, RECORD = 0x20, LABEL = 0x10, BOARD = 0x60 };
 
 #define ACCEPTED(value) ((uint64_t)(value))
 #define REFUSED(number, place) ((uint64_t)(number) << 32 | (place))
@@ -118,7 +118,7 @@ static void seal(struct board *b) {
     put(b->bytes + 0x14, crc32(b->bytes, b->length));
 }
 
-/* the header, a map of this many records, and the board structure */
+/* the header, a map of this many records, whose labels are top1, top2 and so on, and the board structure */
 static struct board *board(struct board *b, uint32_t records, uint32_t version) {
     uint32_t block = 0x1000;
     memset(b, 0, sizeof *b);
@@ -135,7 +135,7 @@ static struct board *board(struct board *b, uint32_t records, uint32_t version) 
     put(map + 0x26, records * block);
     for (uint32_t k = 0; k < records; k++) {
         uint8_t *record = map + MAP + RECORD * k;
-        record[0] = '$';
+        snprintf((char *)record, LABEL, "top%" PRIu32 "$", k + 1);
         put(record + 0x10, RECORD);
         put(record + 0x14, k * block);
     }
@@ -181,6 +181,21 @@ static void board_cases(void) {
     is("13", chip_board_choice(NULL, 0, board(&b, 1, 1)->bytes, ROOM, FULL), EEPROM(0xE0));
 }
 
+/* Two records labelled top1: the second label is told, with every list and by the choice. */
+static void same_label(void) {
+    static struct board a, b;
+    const uint32_t first = HEADER + MAP, second = first + RECORD;
+    board(&a, 1, 1);
+    is("R-2", judge_board(board(&b, 2, 2)), ACCEPTED(3));
+    memcpy(b.bytes + second, b.bytes + first, LABEL);
+    seal(&b);
+    is("R-2", judge_board(&b), REFUSED(34, second));
+    is("R-2", chip_board_judge(b.bytes, b.length, CHIP_KINDS_BARE), REFUSED(34, second));
+    is("R-2", chip_board_choice(a.bytes, a.length, b.bytes, b.length, FULL), ACCEPTED(0xE0));
+    is("R-2", chip_board_choice(b.bytes, b.length, a.bytes, a.length, FULL), EEPROM(0xE0));
+    is("R-2", chip_board_choice(b.bytes, b.length, b.bytes, b.length, FULL), REFUSED(34, second));
+}
+
 /* ---- the version ---- */
 
 /* The library's is that of the header, and the header's words say the same. */
@@ -197,7 +212,8 @@ static void version(void) {
 int main(void) {
     tiny_cases();
     board_cases();
+    same_label();
     version();
-    printf("the papers' cases 1 to 14 and the version through C, %u answers as they must be\n", calls);
+    printf("the papers' cases 1 to 14, the same label twice and the version through C, %u answers as they must be\n", calls);
     return 0;
 }

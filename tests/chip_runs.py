@@ -7,6 +7,7 @@ import signal
 import subprocess
 
 import board_images
+import board_runs
 import tiny_images
 from building import ENVIRONMENT, build, fail
 
@@ -107,6 +108,12 @@ def known(desk):
     desk.chip(DONE, "check", "--known", "full-Logo", "-", given=bad, out="accepted 4 items\n")
     desk.chip(DONE, "choose", "--known", "full-Logo", "--which", "-", "board", given=bad, out="firmware\n")
     desk.chip(DONE, "choose", "--which", "-", "board", given=bad, out="eeprom\n")
+    twice = board_images.plain(2, labels=(b"top1", b"top1"), version=9).image()
+    for text in ("full", "bare"):
+        desk.chip(REFUSED, "check", "--known", text, "-", given=twice, out="refused 34 at 128 (80h): two map records have the same label\n")
+        desk.chip(DONE, "choose", "--known", text, "--which", "-", "board", given=twice, out="eeprom\n")
+        desk.chip(DONE, "choose", "--known", text, "--which", "board", "-", given=twice, out="firmware\n")
+        desk.chip(REFUSED, "choose", "--known", text, "-", "longer", given=twice, says="refused 34 at 128 (80h): two map records have the same label\n")
 
 
 def choices(desk):
@@ -143,6 +150,9 @@ def writes(desk):
         fail("chip write -o: another image, or other permissions")
     board = open("crates/board_write/stdin", "rb").read().splitlines()[0]
     desk.chip(DONE, "write", "-", given=board, out=re.compile(r"24 45 65 70 72 6F 6D 24 01 [0-9A-F ]*\n"))
+    twice = board_runs.asked(board_images.plain(2, labels=(b"top1", b"top1")))
+    desk.chip(REFUSED, "write", "-", "-o", "never", given=b";".join([b"256", *(part.hex().encode() for part in twice)]),
+              says="refused 34 at 128 (80h): two map records have the same label\n")
     desk.chip(REFUSED, "write", "-", "-o", "never", given=REQUEST.replace(b"12", b"11"), says="refused 41 at 0 (0h): the lent buffer is too short for the image\n")
     desk.chip(USAGE, "write", "-", given=REQUEST + REQUEST, says="one request is one line, and here are 2")
     desk.chip(USAGE, "write", "-", given=b"", says="one request is one line, and here are 0")

@@ -10,7 +10,7 @@
    with another list too unless a rule that asks the list was broken. The same for `board_answers`, BOARDS board images,
    tests/reference/board.c and tests/independent.rs;
 3. `tiny_list` and `board_list` list some of them as the references do;
-4. each refusal number from 1 to 11, and 42, 43 and 44, was among the answers for tiny images; from 20 to 33, and 42, for boards. Each tag
+4. each refusal number from 1 to 11, and 42, 43 and 44, was among the answers for tiny images; from 20 to 34, and 42, for boards. Each tag
    and each structure was shown, known and where a list can lack it not known, and strings, map records and GPIO records; each of these calls
    by number was refused with each number that it can be, at numbers up to the count and at 2^32 and 2^64 - 1 (formats.py, `due`);
 5. every answer of `tiny_write` for as many requests as tiny images, and at least 20,000, is the answer of tests/reference/tiny.c; where a

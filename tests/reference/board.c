@@ -290,6 +290,16 @@ static uint32_t rule_30(struct board *b) {
     return NOWHERE;
 }
 
+/* The sixteen bytes are compared, so two empty labels are the same too; PartLabel is no record's. */
+static uint32_t rule_34(struct board *b) {
+    const struct span *map = &b->spans[1];
+    for (unsigned k = 1; k < record_count(map); k++)
+        for (unsigned earlier = 0; earlier < k; earlier++)
+            if (memcmp(b->image + record_place(map, k), b->image + record_place(map, earlier), LABEL) == 0)
+                return record_place(map, k);
+    return NOWHERE;
+}
+
 static uint32_t rule_31(struct board *b) {
     uint32_t type = b->spans[2].place + 0x4C;
     return b->image[type] > 1 ? type : NOWHERE;
@@ -352,17 +362,20 @@ static uint32_t rule_33(struct board *b) {
     return NOWHERE;
 }
 
-/* everything below asks what was found here */
+/* The first of the list that is broken is told: 34 comes after 30 and before 31. Everything below asks what was found here. */
 void judge(struct board *b, const uint8_t *image, size_t lent, uint32_t list) {
-    static uint32_t (*const rules[])(struct board *) = {rule_20, rule_21, rule_22, rule_23, rule_24, rule_25, rule_26,
-                                                        rule_27, rule_28, rule_29, rule_30, rule_31, rule_32, rule_33};
+    static const struct {
+        unsigned number;
+        uint32_t (*broken_at)(struct board *);
+    } rules[] = {{20, rule_20}, {21, rule_21}, {22, rule_22}, {23, rule_23}, {24, rule_24}, {25, rule_25}, {26, rule_26}, {27, rule_27},
+                 {28, rule_28}, {29, rule_29}, {30, rule_30}, {34, rule_34}, {31, rule_31}, {32, rule_32}, {33, rule_33}};
     b->image = image;
     b->lent = lent;
     b->list = list;
     for (unsigned i = 0; i < sizeof rules / sizeof *rules; i++) {
-        uint32_t place = rules[i](b);
+        uint32_t place = rules[i].broken_at(b);
         if (place != NOWHERE) {
-            b->judged = refuse(20 + i, place);
+            b->judged = refuse(rules[i].number, place);
             return;
         }
     }
@@ -509,6 +522,7 @@ static const char *words_of(unsigned number) {
     case 31: return "BoardType is above 1";
     case 32: return "a reserved byte is not zero";
     case 33: return "a structure is too short, or a field of it is wrong";
+    case 34: return "two map records have the same label";
     case 40: return "the image would have over 255 bytes, or as a board over 65536";
     case 41: return "the lent buffer is too short for the image";
     case 45: return "the further bytes have a $PromSig, which no writer makes";

@@ -83,7 +83,7 @@ static void lay(const struct bytes given[PARTS], struct bytes image) {
 }
 
 /* Fills in the check fields of an image that has been laid, and says what a reader with the full list says of it; then 45. A CrcLength of
-   zero is always wrong, so the first judge says 27 unless a lower number applies, and the lower ones do not look at the check fields. */
+   zero is always wrong, so the first judge says 27 unless a rule before it is broken, and those do not look at the check fields. */
 static struct answer complete(struct bytes image) {
     static struct board board;
     judge(&board, image.at, image.length, FULL_LIST);

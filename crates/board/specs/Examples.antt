@@ -18,10 +18,10 @@ use Rattle.board_fields.specs.Map.{badMap, badMapField, badBoardType}
 use Rattle.board_fields.specs.Reserved.{reservedUsed}
 use Rattle.board_layout.specs.Layout.{shapeAt, endAt, round16, next, mapAt, boardAt, laterAt, records}
 use Rattle.board_layout.specs.Shapes.{listedShape, shapeOf}
-use Rattle.board_records.specs.Records.{badMapRecord}
+use Rattle.board_records.specs.Records.{badMapRecord, repeatedLabel}
 use Rattle.board_rules.specs.Examples.{zeros, image, logo}
 use Rattle.board_rules.specs.Judged.{judged}
-use Rattle.board_rules.specs.Rules.{rule20, rule21, rule22, rule23, rule24, rule25, rule26, rule27, rule28, rule29, rule30, rule31, rule32, rule33, misplaced, gapUsed, expected, outOfOrder, promSigAt, covered, checkOver}
+use Rattle.board_rules.specs.Rules.{rule20, rule21, rule22, rule23, rule24, rule25, rule26, rule27, rule28, rule29, rule30, rule31, rule32, rule33, rule34, misplaced, gapUsed, expected, outOfOrder, promSigAt, covered, checkOver}
 use Rattle.chain.specs.Chain.{visit, chain}
 use Rattle.chain.specs.Fill.{tab}
 use Rattle.chain.specs.First.{first}
@@ -85,7 +85,7 @@ items : map (itemNumbered full case13) (0 ∷ 1 ∷ 2 ∷ 3 ∷ [])
     })
     ∷ ItemAnswer.Refused beyond
     ∷ []
-unfolding itemNumbered mapRecordNumbered gpioRecordNumbered itemAt restAt eepromAt eeprMapAt brdInfoAt mapRecordAt judged rule20 rule21 rule22 rule23 rule24 rule25 rule26 rule27 rule28 rule29 rule30 rule31 rule32 rule33 misplaced gapUsed expected outOfOrder promSigAt covered checkOver badMapHead badBoardHead badPromSigHead badHash badHashOf hashSize badMap badMapField badMapRecord badBoardType reservedUsed badInside shapeAt shapeOf listedShape endAt round16 next mapAt boardAt laterAt records visit chain first nth tab le16 le32 le64 sixteenAt nonzero isText isLabelText textEnd badLabel all crc32 shift shifts step32
+unfolding itemNumbered mapRecordNumbered gpioRecordNumbered itemAt restAt eepromAt eeprMapAt brdInfoAt mapRecordAt judged rule20 rule21 rule22 rule23 rule24 rule25 rule26 rule27 rule28 rule29 rule30 rule31 rule32 rule33 rule34 misplaced gapUsed expected outOfOrder promSigAt covered checkOver badMapHead badBoardHead badPromSigHead badHash badHashOf hashSize badMap badMapField badMapRecord repeatedLabel badBoardType reservedUsed badInside shapeAt shapeOf listedShape endAt round16 next mapAt boardAt laterAt records visit chain first nth tab le16 le32 le64 sixteenAt nonzero isText isLabelText textEnd badLabel all crc32 shift shifts step32
 items = refl
 
 -- ---- the one record of the map, and none of number 1; no item holds GPIO data
@@ -98,11 +98,11 @@ records-of-map : map (mapRecordNumbered full case13) (0 ∷ 1 ∷ [])
     })
     ∷ MapRecordAnswer.Refused beyond
     ∷ []
-unfolding itemNumbered mapRecordNumbered gpioRecordNumbered itemAt restAt eepromAt eeprMapAt brdInfoAt mapRecordAt judged rule20 rule21 rule22 rule23 rule24 rule25 rule26 rule27 rule28 rule29 rule30 rule31 rule32 rule33 misplaced gapUsed expected outOfOrder promSigAt covered checkOver badMapHead badBoardHead badPromSigHead badHash badHashOf hashSize badMap badMapField badMapRecord badBoardType reservedUsed badInside shapeAt shapeOf listedShape endAt round16 next mapAt boardAt laterAt records visit chain first nth tab le16 le32 le64 sixteenAt nonzero isText isLabelText textEnd badLabel all crc32 shift shifts step32
+unfolding itemNumbered mapRecordNumbered gpioRecordNumbered itemAt restAt eepromAt eeprMapAt brdInfoAt mapRecordAt judged rule20 rule21 rule22 rule23 rule24 rule25 rule26 rule27 rule28 rule29 rule30 rule31 rule32 rule33 rule34 misplaced gapUsed expected outOfOrder promSigAt covered checkOver badMapHead badBoardHead badPromSigHead badHash badHashOf hashSize badMap badMapField badMapRecord repeatedLabel badBoardType reservedUsed badInside shapeAt shapeOf listedShape endAt round16 next mapAt boardAt laterAt records visit chain first nth tab le16 le32 le64 sixteenAt nonzero isText isLabelText textEnd badLabel all crc32 shift shifts step32
 records-of-map = refl
 
 no-gpio : gpioRecordNumbered full case13 2 0 ≡ GpioRecordAnswer.Refused beyond
-unfolding itemNumbered mapRecordNumbered gpioRecordNumbered itemAt restAt eepromAt eeprMapAt brdInfoAt mapRecordAt judged rule20 rule21 rule22 rule23 rule24 rule25 rule26 rule27 rule28 rule29 rule30 rule31 rule32 rule33 misplaced gapUsed expected outOfOrder promSigAt covered checkOver badMapHead badBoardHead badPromSigHead badHash badHashOf hashSize badMap badMapField badMapRecord badBoardType reservedUsed badInside shapeAt shapeOf listedShape endAt round16 next mapAt boardAt laterAt records visit chain first nth tab le16 le32 le64 sixteenAt nonzero isText isLabelText textEnd badLabel all crc32 shift shifts step32
+unfolding itemNumbered mapRecordNumbered gpioRecordNumbered itemAt restAt eepromAt eeprMapAt brdInfoAt mapRecordAt judged rule20 rule21 rule22 rule23 rule24 rule25 rule26 rule27 rule28 rule29 rule30 rule31 rule32 rule33 rule34 misplaced gapUsed expected outOfOrder promSigAt covered checkOver badMapHead badBoardHead badPromSigHead badHash badHashOf hashSize badMap badMapField badMapRecord repeatedLabel badBoardType reservedUsed badInside shapeAt shapeOf listedShape endAt round16 next mapAt boardAt laterAt records visit chain first nth tab le16 le32 le64 sixteenAt nonzero isText isLabelText textEnd badLabel all crc32 shift shifts step32
 no-gpio = refl
 
 -- ---- a structure at E0h that the full list knows: its data lie past the reserved bytes; the bare list shows signature, place and length

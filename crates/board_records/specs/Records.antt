@@ -1,4 +1,4 @@
--- What rules 30, 32 and 33 say of one record, of a map or of GPIO data. Checks stand in ascending order of place; products are exact. Assumes nothing.
+-- What rules 30, 34, 32 and 33 say of one record, of a map or of GPIO data. Checks stand in ascending order of place; products are exact. Assumes nothing.
 use Prim.Native.Nat.{ℕ, _+_, _-_, _*_, _/_}
 use mathlib.Core.Bool.{Bool, not, cond, _||_}
 use mathlib.Core.List.{List, [], _∷_}
@@ -7,12 +7,13 @@ use Rattle.board_layout.specs.Layout.{endAt}
 use Rattle.board_layout.specs.Places.{BlkLength, MapData, MapLabel, MapLength, MapOffset, Address, mapRecordSize, GpioLabel, GpioLength, DataSize, GpioDataType, gpioRecordSize}
 use Rattle.board_layout.specs.declared.Records.{Records}
 use Rattle.board_layout.specs.declared.Records.the-variants.{Map, Gpio}
-use Rattle.chain.specs.First.{checks, when}
+use Rattle.chain.specs.Chain.{chain, ahead}
+use Rattle.chain.specs.First.{checks, first, when}
 use Rattle.chain.specs.declared.Found.{Found}
 use Rattle.chain.specs.declared.Found.the-variants.{Nothing}
 use Rattle.octets.specs.Bytes.{byte, le32}
 use Rattle.octets.specs.Label.{badLabel}
-use Rattle.octets.specs.Runs.{nonzero}
+use Rattle.octets.specs.Runs.{sameRun, nonzero}
 
 -- ---- 30: label; record Length, Offset; Address over 7Fh
 -- the number of the record at r
@@ -28,6 +29,19 @@ badMapRecord s m r =
     ∷ when (not (eqb (le32 s (r + MapOffset)) (mapNumber m r * le32 s (m + BlkLength)))) (r + MapOffset)
     ∷ when (ltb 0x7F (byte s (r + Address))) (r + Address)
     ∷ [])
+
+-- ---- 34: two map records whose sixteen label bytes are equal
+-- the records of the map at m before the one at r
+abbrev pub earlier : ℕ → ℕ → List ℕ
+earlier m r = chain (ahead mapRecordSize) r (m + MapData)
+
+-- the sixteen label bytes of the records at e and r are equal
+abbrev pub sameLabel : List ℕ → ℕ → ℕ → Bool
+sameLabel s e r = sameRun s (e + MapLabel) s (r + MapLabel) 16
+
+-- "the first label that equals an earlier one": the label of the record at r, where any earlier record of the map at m has the same
+unfoldable pub repeatedLabel : List ℕ → ℕ → ℕ → Found
+repeatedLabel s m r = first (λ e. when (sameLabel s e r) (r + MapLabel)) (earlier m r)
 
 -- ---- 33: GPIO record Length, label, DataSize not 1, 2, 4; DataType over 4
 -- 1, 2 or 4

@@ -1,4 +1,4 @@
-// The records of a map and of GPIO data: what rules 30, 32 and 33 say of one record, and the search for the first that breaks one of them.
+// The records of a map and of GPIO data: what rules 30, 34, 32 and 33 say of one record, and the search for the first that breaks one of them.
 // Every public function is total: a byte past the end of the image reads as 0.
 use board_layout::Records;
 use board_layout::data_offset;
@@ -9,16 +9,18 @@ use octets::byte_at;
 use octets::first_nonzero;
 use octets::label::bad_label;
 use octets::le32_at;
+use octets::same_sixteen;
 ghost use mathlib.Core.Path.{_≡_};
 ghost use Prim.Native.Nat.{_*_, _<_};
-ghost use Rattle.board_records.specs.Records.{mapNumber, badMapRecord, dataSizeFits, badGpioRecord, fieldUsed, recordFrom, recordTo};
+ghost use Rattle.board_records.specs.Records.{mapNumber, badMapRecord, repeatedLabel, dataSizeFits, badGpioRecord, fieldUsed, recordFrom, recordTo};
 ghost use Rattle.board_records.specs.Tests.{recordsOf, askedOfRecord};
 ghost use Rattle.board_layout.specs.Layout.{records};
 ghost use Rattle.chain.specs.First.{first};
 
-// What is asked of a record: rule 30 of a map's, rule 33 of GPIO data's, rule 32 of either.
+// What is asked of a record: rules 30 and 34 of a map's, rule 33 of GPIO data's, rule 32 of either.
 pub enum RecordRule {
     MapFields,
+    RepeatedLabel,
     GpioFields,
     Reserved(Records),
 }
@@ -96,6 +98,21 @@ fn bad_map_record(image: &[u8], map: u32, at: usize) -> Found
     Found::Nothing
 }
 
+// Rule 34 at the record at a place, of the map at another: its label, where an earlier record has the same.
+fn repeated_label(image: &[u8], map: u32, at: usize) -> Found
+    requires { ⌜ at < 0x4_0000_0000 ⌝ }
+    ensures { λ r. ⌜ r ≡ repeatedLabel (now (image .entry)) map at ⌝ }
+{
+    let mut earlier = map as usize + 0x30;
+    while earlier < at {
+        if same_sixteen(image, earlier, image, at) {
+            return Found::At(at);
+        }
+        earlier += 0x20;
+    }
+    Found::Nothing
+}
+
 // Whether a GPIO record's DataSize is good.
 fn is_data_size(n: u8) -> bool
     ensures { λ r. ⌜ r ≡ dataSizeFits n ⌝ }
@@ -136,6 +153,7 @@ fn records_of(rule: RecordRule) -> Records
 {
     match rule {
         RecordRule::MapFields => Records::Map,
+        RecordRule::RepeatedLabel => Records::Map,
         RecordRule::GpioFields => Records::Gpio,
         RecordRule::Reserved(which) => which,
     }
@@ -148,6 +166,7 @@ fn ask_record(rule: RecordRule, image: &[u8], structure: u32, at: usize) -> Foun
 {
     match rule {
         RecordRule::MapFields => bad_map_record(image, structure, at),
+        RecordRule::RepeatedLabel => repeated_label(image, structure, at),
         RecordRule::GpioFields => bad_gpio_record(image, at),
         RecordRule::Reserved(which) => {
             let end = end_at(image, structure);

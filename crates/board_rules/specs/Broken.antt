@@ -1,5 +1,5 @@
--- Rules 20 to 33 as the rows of the paper's table: at which places each is broken, with a case for each clause of its wording, in its order. Paper 01, "Refusal
--- numbers and their order". What the judge looks for (Rules.antt) is proved to be the smallest such place. Assumes nothing.
+-- Rules 20 to 34 as the rows of the papers' table: at which places each is broken, with a case for each clause of its wording, in its order. Paper 01, "Refusal
+-- numbers and their order", and paper 02, R-2. What the judge looks for (Rules.antt) is proved to be the smallest such place. Assumes nothing.
 use Prim.Native.Nat.{ℕ, _+_, _*_, _≤_, _<_}
 use mathlib.Core.Bool.{true, false}
 use mathlib.Core.List.{List, [], _∷_}
@@ -21,7 +21,7 @@ use Rattle.chain.specs.declared.Found.the-variants.{At, Nothing}
 use Rattle.kinds.specs.Signatures.{eeprom, eeprMap, brdInfo, promSig}
 use Rattle.kinds.specs.declared.Kinds.{Kinds}
 use Rattle.octets.specs.Bytes.{byte, le16, le32}
-use Rattle.octets.specs.Label.{dollar, BadAt}
+use Rattle.octets.specs.Label.{dollar, label, BadAt}
 use Rattle.verdict.specs.Table.{Row}
 
 module _ (k : Kinds) (s : List ℕ) where
@@ -136,6 +136,11 @@ module _ (k : Kinds) (s : List ℕ) where
     recordOffset : (m j r : ℕ) → Second m → nth (records Map s m) j ≡ At r → q ≡ r + MapOffset → (le32 s q ≡ j * le32 s (m + BlkLength) → ⊥) → Broken30 q
     addressOver7F : (m r : ℕ) → Second m → Among (records Map s m) r → q ≡ r + Address → 0x7F < byte s q → Broken30 q
 
+  -- 34: two map records whose sixteen label bytes are equal; the first label that equals an earlier one
+  pub data Broken34 (q : ℕ) : Type 0 where
+    labelRepeated : (m i j e r : ℕ) → Second m → nth (records Map s m) i ≡ At e → nth (records Map s m) j ≡ At r → i < j
+        → label s (e + MapLabel) ≡ label s (r + MapLabel) → q ≡ r + MapLabel → Broken34 q
+
   -- 31: BoardType over 1; the field
   pub data Broken31 (q : ℕ) : Type 0 where
     boardTypeOver1 : (p : ℕ) → Third p → q ≡ p + BoardType → 1 < byte s q → Broken31 q
@@ -158,7 +163,7 @@ module _ (k : Kinds) (s : List ℕ) where
     gpioLabel : (p r : ℕ) → GpioRecordAt p r → BadAt s (r + GpioLabel) q → Broken33 q
     dataSizeOther : (p r : ℕ) → GpioRecordAt p r → q ≡ r + DataSize → (byte s q ≡ 1 → ⊥) → (byte s q ≡ 2 → ⊥) → (byte s q ≡ 4 → ⊥) → Broken33 q
 
--- the table, in the order of the rules
+-- the table, in the order of the rules: 34 "comes after 30 and before 31"
 abbrev pub table : Kinds → List ℕ → List Row
 table k s =
     (20, Broken20 k s)
@@ -172,6 +177,7 @@ table k s =
     ∷ (28, Broken28 k s)
     ∷ (29, Broken29 k s)
     ∷ (30, Broken30 k s)
+    ∷ (34, Broken34 k s)
     ∷ (31, Broken31 k s)
     ∷ (32, Broken32 k s)
     ∷ (33, Broken33 k s)

@@ -11,9 +11,9 @@ use Rattle.board_fields.specs.Map.{badMap, badMapField, badBoardType}
 use Rattle.board_fields.specs.Reserved.{reservedUsed}
 use Rattle.board_layout.specs.Layout.{shapeAt, endAt, round16, next, mapAt, boardAt, laterAt, records}
 use Rattle.board_layout.specs.Shapes.{listedShape, shapeOf}
-use Rattle.board_records.specs.Records.{badMapRecord}
+use Rattle.board_records.specs.Records.{badMapRecord, repeatedLabel}
 use Rattle.board_rules.specs.Judged.{judged}
-use Rattle.board_rules.specs.Rules.{rule20, rule21, rule22, rule23, rule24, rule25, rule26, rule27, rule28, rule29, rule30, rule31, rule32, rule33, misplaced, gapUsed, expected, outOfOrder, promSigAt, covered, checkOver}
+use Rattle.board_rules.specs.Rules.{rule20, rule21, rule22, rule23, rule24, rule25, rule26, rule27, rule28, rule29, rule30, rule31, rule32, rule33, rule34, misplaced, gapUsed, expected, outOfOrder, promSigAt, covered, checkOver}
 use Rattle.chain.specs.Chain.{visit, chain}
 use Rattle.chain.specs.Fill.{tab}
 use Rattle.chain.specs.First.{first}
@@ -22,7 +22,7 @@ use Rattle.crc.specs.Crc32.{crc32, shift, shifts, step32}
 use Rattle.kinds.specs.Kinds.{all, full, bare}
 use Rattle.octets.specs.Bytes.{le16, le32, le64}
 use Rattle.octets.specs.Label.{isText, isLabelText, textEnd, badLabel}
-use Rattle.octets.specs.Runs.{nonzero}
+use Rattle.octets.specs.Runs.{nonzero, difference, sameRun}
 use Rattle.verdict.specs.Verdict.{refusal}
 use Rattle.verdict.specs.declared.Judged.{Judged}
 use Rattle.verdict.specs.declared.Judged.the-variants.{Accepted}
@@ -116,7 +116,7 @@ early =
     ∷ []
 
 early-hold : map (λ (r : Row). judged full (r .image)) early ≡ map (λ (r : Row). r .answer) early
-unfolding judged rule20 rule21 rule22 rule23 rule24 rule25 rule26 rule27 rule28 rule29 rule30 rule31 rule32 rule33 misplaced gapUsed expected outOfOrder promSigAt covered checkOver badMapHead badBoardHead badPromSigHead badHash badHashOf hashSize badMap badMapField badMapRecord badBoardType reservedUsed badInside shapeAt shapeOf listedShape endAt round16 next mapAt boardAt laterAt records visit chain first tab le16 le32 le64 nonzero isText isLabelText textEnd badLabel all
+unfolding judged rule20 rule21 rule22 rule23 rule24 rule25 rule26 rule27 rule28 rule29 rule30 rule31 rule32 rule33 rule34 misplaced gapUsed expected outOfOrder promSigAt covered checkOver badMapHead badBoardHead badPromSigHead badHash badHashOf hashSize badMap badMapField badMapRecord repeatedLabel badBoardType reservedUsed badInside shapeAt shapeOf listedShape endAt round16 next mapAt boardAt laterAt records visit chain first tab le16 le32 le64 nonzero isText isLabelText textEnd badLabel all
 early-hold = refl
 
 -- ---- rules 27 and 29, and acceptance
@@ -137,7 +137,7 @@ checked =
     ∷ []
 
 checked-hold : map (λ (r : Row). judged full (r .image)) checked ≡ map (λ (r : Row). r .answer) checked
-unfolding judged rule20 rule21 rule22 rule23 rule24 rule25 rule26 rule27 rule28 rule29 rule30 rule31 rule32 rule33 misplaced gapUsed expected outOfOrder promSigAt covered checkOver badMapHead badBoardHead badPromSigHead badHash badHashOf hashSize badMap badMapField badMapRecord badBoardType reservedUsed badInside shapeAt shapeOf listedShape endAt round16 next mapAt boardAt laterAt records visit chain first tab le16 le32 le64 nonzero isText isLabelText textEnd badLabel all crc32 shift shifts step32
+unfolding judged rule20 rule21 rule22 rule23 rule24 rule25 rule26 rule27 rule28 rule29 rule30 rule31 rule32 rule33 rule34 misplaced gapUsed expected outOfOrder promSigAt covered checkOver badMapHead badBoardHead badPromSigHead badHash badHashOf hashSize badMap badMapField badMapRecord repeatedLabel badBoardType reservedUsed badInside shapeAt shapeOf listedShape endAt round16 next mapAt boardAt laterAt records visit chain first tab le16 le32 le64 nonzero isText isLabelText textEnd badLabel all crc32 shift shifts step32
 checked-hold = refl
 
 -- ---- rule 28, case 12: the board structure behind a map of n records, of which it reads the heads alone
@@ -164,8 +164,45 @@ fields =
     ∷ []
 
 fields-hold : map (λ (r : Row). judged full (r .image)) fields ≡ map (λ (r : Row). r .answer) fields
-unfolding judged rule20 rule21 rule22 rule23 rule24 rule25 rule26 rule27 rule28 rule29 rule30 rule31 rule32 rule33 misplaced gapUsed expected outOfOrder promSigAt covered checkOver badMapHead badBoardHead badPromSigHead badHash badHashOf hashSize badMap badMapField badMapRecord badBoardType reservedUsed badInside shapeAt shapeOf listedShape endAt round16 next mapAt boardAt laterAt records visit chain first tab le16 le32 le64 nonzero isText isLabelText textEnd badLabel all crc32 shift shifts step32
+unfolding judged rule20 rule21 rule22 rule23 rule24 rule25 rule26 rule27 rule28 rule29 rule30 rule31 rule32 rule33 rule34 misplaced gapUsed expected outOfOrder promSigAt covered checkOver badMapHead badBoardHead badPromSigHead badHash badHashOf hashSize badMap badMapField badMapRecord repeatedLabel badBoardType reservedUsed badInside shapeAt shapeOf listedShape endAt round16 next mapAt boardAt laterAt records visit chain first tab le16 le32 le64 nonzero isText isLabelText textEnd badLabel all crc32 shift shifts step32
 fields-hold = refl
+
+-- ---- rule 34: two records with labels of four characters, and '$' and zeros; this Speed and BoardType
+abbrev recordAt : ℕ → List ℕ → List ℕ
+recordAt offset text = text ++ (0x24 ∷ zeros 11) ++ four 0x20 ++ four offset ++ (0x50 ∷ zeros 7)
+
+abbrev two : ℕ → List ℕ → List ℕ → ℕ → ℕ → List ℕ
+two check text other speed type =
+    header 0x100 check 0x100
+    ++ head (0x24 ∷ 0x45 ∷ 0x65 ∷ 0x70 ∷ 0x72 ∷ 0x4D ∷ 0x61 ∷ 0x70 ∷ []) 0x70
+    ++ (0x72 ∷ 0x69 ∷ 0x67 ∷ 0x24 ∷ zeros 12) ++ four 4096 ++ (32 ∷ 0 ∷ []) ++ four 8192 ++ (0 ∷ 1 ∷ speed ∷ zeros 3)
+    ++ recordAt 0 text ++ recordAt 4096 other
+    ++ brdInfo 0x60 type
+
+-- "top1" and "top2"
+abbrev top1 : List ℕ
+top1 = 0x74 ∷ 0x6F ∷ 0x70 ∷ 0x31 ∷ []
+
+abbrev top2 : List ℕ
+top2 = 0x74 ∷ 0x6F ∷ 0x70 ∷ 0x32 ∷ []
+
+abbrev labels : List Row
+labels =
+    row (two 0x5E808744 top1 top2 2 0) (Accepted 3)
+    -- 34 "comes after 30": Speed 4
+    ∷ row (two 0x50BD608C top1 top1 4 0) (refusal 30 0x5C)
+    -- "and before 31": BoardType 2
+    ∷ row (two 0xCF0C54DA top1 top1 2 2) (refusal 34 0x80)
+    ∷ []
+
+labels-hold : map (λ (r : Row). judged full (r .image)) labels ≡ map (λ (r : Row). r .answer) labels
+unfolding judged rule20 rule21 rule22 rule23 rule24 rule25 rule26 rule27 rule28 rule29 rule30 rule31 rule32 rule33 rule34 misplaced gapUsed expected outOfOrder promSigAt covered checkOver badMapHead badBoardHead badPromSigHead badHash badHashOf hashSize badMap badMapField badMapRecord repeatedLabel badBoardType reservedUsed badInside shapeAt shapeOf listedShape endAt round16 next mapAt boardAt laterAt records visit chain first tab le16 le32 le64 nonzero difference sameRun isText isLabelText textEnd badLabel all crc32 shift shifts step32
+labels-hold = refl
+
+-- "refused by every reader": also by the one with the bare list
+bare-refuses : judged bare (two 0x05C22256 top1 top1 2 0) ≡ refusal 34 0x80
+unfolding judged rule20 rule21 rule22 rule23 rule24 rule25 rule26 rule27 rule28 rule29 rule30 rule31 rule32 rule33 rule34 misplaced gapUsed expected outOfOrder promSigAt covered checkOver badMapHead badBoardHead badPromSigHead badHash badHashOf hashSize badMap badMapField badMapRecord repeatedLabel badBoardType reservedUsed badInside shapeAt shapeOf listedShape endAt round16 next mapAt boardAt laterAt records visit chain first tab le16 le32 le64 nonzero difference sameRun isText isLabelText textEnd badLabel all crc32 shift shifts step32
+bare-refuses = refl
 
 -- ---- rules 32 and 33 on a structure that the full list knows, and the bare list does not
 abbrev known : List Row
@@ -178,9 +215,9 @@ known =
     ∷ []
 
 known-hold : map (λ (r : Row). judged full (r .image)) known ≡ map (λ (r : Row). r .answer) known
-unfolding judged rule20 rule21 rule22 rule23 rule24 rule25 rule26 rule27 rule28 rule29 rule30 rule31 rule32 rule33 misplaced gapUsed expected outOfOrder promSigAt covered checkOver badMapHead badBoardHead badPromSigHead badHash badHashOf hashSize badMap badMapField badMapRecord badBoardType reservedUsed badInside shapeAt shapeOf listedShape endAt round16 next mapAt boardAt laterAt records visit chain first tab le16 le32 le64 nonzero isText isLabelText textEnd badLabel all crc32 shift shifts step32
+unfolding judged rule20 rule21 rule22 rule23 rule24 rule25 rule26 rule27 rule28 rule29 rule30 rule31 rule32 rule33 rule34 misplaced gapUsed expected outOfOrder promSigAt covered checkOver badMapHead badBoardHead badPromSigHead badHash badHashOf hashSize badMap badMapField badMapRecord repeatedLabel badBoardType reservedUsed badInside shapeAt shapeOf listedShape endAt round16 next mapAt boardAt laterAt records visit chain first tab le16 le32 le64 nonzero isText isLabelText textEnd badLabel all crc32 shift shifts step32
 known-hold = refl
 
 not-known-hold : map (λ (r : Row). judged bare (r .image)) known ≡ Accepted 4 ∷ Accepted 4 ∷ Accepted 4 ∷ []
-unfolding judged rule20 rule21 rule22 rule23 rule24 rule25 rule26 rule27 rule28 rule29 rule30 rule31 rule32 rule33 misplaced gapUsed expected outOfOrder promSigAt covered checkOver badMapHead badBoardHead badPromSigHead badHash badHashOf hashSize badMap badMapField badMapRecord badBoardType reservedUsed badInside shapeAt shapeOf listedShape endAt round16 next mapAt boardAt laterAt records visit chain first tab le16 le32 le64 nonzero isText isLabelText textEnd badLabel all crc32 shift shifts step32
+unfolding judged rule20 rule21 rule22 rule23 rule24 rule25 rule26 rule27 rule28 rule29 rule30 rule31 rule32 rule33 rule34 misplaced gapUsed expected outOfOrder promSigAt covered checkOver badMapHead badBoardHead badPromSigHead badHash badHashOf hashSize badMap badMapField badMapRecord repeatedLabel badBoardType reservedUsed badInside shapeAt shapeOf listedShape endAt round16 next mapAt boardAt laterAt records visit chain first tab le16 le32 le64 nonzero isText isLabelText textEnd badLabel all crc32 shift shifts step32
 not-known-hold = refl

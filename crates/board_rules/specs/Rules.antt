@@ -1,5 +1,5 @@
--- Rules 20 to 33, each as the smallest place where it is broken. Paper 01, "Refusal numbers and their order". What 26 and 29 to 33 say of one structure is in
--- the crates board_fields and board_records. Assumes nothing.
+-- Rules 20 to 34, each as the smallest place where it is broken. Paper 01, "Refusal numbers and their order", and paper 02, R-2. What 26 and 29 to 34 say of one
+-- structure or record is in the crates board_fields and board_records. Assumes nothing.
 use Prim.Native.Nat.{ℕ, _+_, _-_}
 use mathlib.Core.Bool.{Bool, not, cond, _&&_, _||_}
 use mathlib.Core.List.{List, [], _∷_}
@@ -10,10 +10,12 @@ use Rattle.board_fields.specs.Heads.{badMapHead, badBoardHead, badPromSigHead}
 use Rattle.board_fields.specs.Inside.{badInside}
 use Rattle.board_fields.specs.Map.{badMap, badBoardType}
 use Rattle.board_fields.specs.Reserved.{reservedUsed}
-use Rattle.board_layout.specs.Layout.{signatureAt, majorAt, lengthAt, shapeAt, structLen, endAt, next, structures, mapAt, boardAt, laterAt}
+use Rattle.board_layout.specs.Layout.{signatureAt, majorAt, lengthAt, shapeAt, structLen, endAt, next, structures, mapAt, boardAt, laterAt, records}
 use Rattle.board_layout.specs.Places.{headSize, StructLen, Crc32, CrcLength, EepromSig}
 use Rattle.board_layout.specs.Shapes.{knows}
+use Rattle.board_layout.specs.declared.Records.the-variants.{Map}
 use Rattle.board_layout.specs.declared.Shape.{Shape}
+use Rattle.board_records.specs.Records.{repeatedLabel}
 use Rattle.chain.specs.Chain.{chain}
 use Rattle.chain.specs.First.{checks, first, when}
 use Rattle.chain.specs.declared.Found.{Found}
@@ -142,6 +144,10 @@ rule29 s = onFound (badHash s) (promSigAt s)
 -- 30: the map's fields and records
 unfoldable pub rule30 : List ℕ → Found
 rule30 s = badMap s (mapAt s)
+
+-- 34: two map records whose sixteen label bytes are equal; the first label that equals an earlier one
+unfoldable pub rule34 : List ℕ → Found
+rule34 s = first (repeatedLabel s (mapAt s)) (records Map s (mapAt s))
 
 -- 31: BoardType
 unfoldable pub rule31 : List ℕ → Found

@@ -24,4 +24,5 @@ pub mod BrokenInside
 pub mod BrokenKnown
 pub mod BrokenFields
 pub mod Table
+pub mod Labels
 pub mod Bounds

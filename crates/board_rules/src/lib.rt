@@ -1,4 +1,4 @@
-// The rules of board images, 20 to 33, and the judge that applies them in their order.
+// The rules of board images, 20 to 34, and the judge that applies them in their order.
 use board_fields::bad_board_head;
 use board_fields::bad_board_type;
 use board_fields::bad_hash;
@@ -11,6 +11,8 @@ use board_layout::length_at;
 use board_layout::major_at;
 use board_layout::map_place;
 use board_layout::struct_len;
+use board_records::RecordRule;
+use board_records::first_record;
 use chain::Found;
 use kinds::BRD_INFO;
 use kinds::EEPR_MAP;
@@ -186,7 +188,7 @@ fn bad_signature(image: &[u8], signature: Found) -> Found
 // The rules from 32 on.
 fn judge_known(image: &[u8], kinds: Kinds, found: Findings) -> Judged
     requires { ⌜ Finds kinds (now image) found ⌝ }
-    ensures { λ r. ⌜ r ≡ answer (drop 12 (rules kinds (now (image .entry)))) (Judged.Accepted (length (structures (now (image .entry))))) ⌝ }
+    ensures { λ r. ⌜ r ≡ answer (drop 13 (rules kinds (now (image .entry)))) (Judged.Accepted (length (structures (now (image .entry))))) ⌝ }
 {
     let contents = walk_known(image, kinds, found.rest);
     let reserved = contents.reserved;
@@ -210,8 +212,12 @@ fn judge_fields(image: &[u8], kinds: Kinds, found: Findings) -> Judged
     if let Found::At(p) = bad_signature(image, signature) {
         return refused(29, p);
     }
-    if let Found::At(p) = bad_map(image, map_at(image)) {
+    let map = map_at(image);
+    if let Found::At(p) = bad_map(image, map) {
         return refused(30, p);
+    }
+    if let Found::At(p) = first_record(RecordRule::RepeatedLabel, image, map) {
+        return refused(34, p);
     }
     if let Found::At(p) = bad_board_type(image, board_at(image)) {
         return refused(31, p);

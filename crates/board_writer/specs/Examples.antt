@@ -13,10 +13,10 @@ use Rattle.board_fields.specs.Map.{badMap, badMapField, badBoardType}
 use Rattle.board_fields.specs.Reserved.{reservedUsed}
 use Rattle.board_layout.specs.Layout.{shapeAt, endAt, round16, next, mapAt, boardAt, laterAt, records}
 use Rattle.board_layout.specs.Shapes.{listedShape, shapeOf}
-use Rattle.board_records.specs.Records.{badMapRecord}
+use Rattle.board_records.specs.Records.{badMapRecord, repeatedLabel}
 use Rattle.board_rules.specs.Examples as example
 use Rattle.board_rules.specs.Judged.{judged}
-use Rattle.board_rules.specs.Rules.{rule20, rule21, rule22, rule23, rule24, rule25, rule26, rule27, rule28, rule29, rule30, rule31, rule32, rule33, misplaced, gapUsed, expected, outOfOrder, promSigAt, covered, checkOver}
+use Rattle.board_rules.specs.Rules.{rule20, rule21, rule22, rule23, rule24, rule25, rule26, rule27, rule28, rule29, rule30, rule31, rule32, rule33, rule34, misplaced, gapUsed, expected, outOfOrder, promSigAt, covered, checkOver}
 use Rattle.board_writer.specs.ExampleParts.{blank, mapWith, board13, top, given, record13, parts13, image13, parts2, image2, imageLogo, imageSigned}
 use Rattle.board_writer.specs.Image.{zeros, laidRecord, laidRecords, body, laid, crcLength, check, image}
 use Rattle.board_writer.specs.Parts.{Parts, parts}
@@ -29,7 +29,7 @@ use Rattle.crc.specs.Crc32.{crc32, shift, shifts, step32}
 use Rattle.kinds.specs.Kinds.{all, full}
 use Rattle.octets.specs.Bytes.{spelled, le16, le32, le64}
 use Rattle.octets.specs.Label.{isText, isLabelText, textEnd, badLabel}
-use Rattle.octets.specs.Runs.{sixteenAt, nonzero}
+use Rattle.octets.specs.Runs.{sixteenAt, nonzero, difference, sameRun}
 use Rattle.verdict.specs.Said.{Said, says, refused, writeSaid}
 use Rattle.verdict.specs.declared.Judged.the-variants.{Accepted}
 use Rattle.verdict.specs.declared.WriteAnswer.{WriteAnswer}
@@ -84,6 +84,8 @@ calls =
     -- PartSize of two records where one is given: 30 at the field. An address over 7Fh
     ∷ call (parts 4 (mapWith 8192) record13 board13 []) 0xE0 (refused 30 0x56) []
     ∷ call (given (top 0x31 0x80) []) 0xE0 (refused 30 0x78) []
+    -- two records of one label: 34 at the second
+    ∷ call (parts 4 (mapWith 8192) (top 0x31 0x50 ++ top 0x31 0x51) board13 []) 0x100 (refused 34 0x80) []
     -- further bytes: zeros are 23 where a structure is due; a `$Logo$` is written
     ∷ call (given record13 (zeros 16)) 0xF0 (refused 23 0xE0) []
     ∷ call (given record13 (example.logo 0x20 0)) 0x100 (says 0x100) imageLogo
@@ -93,7 +95,7 @@ calls =
     ∷ []
 
 calls-hold : map outcome calls ≡ map foretold calls
-unfolding written checked reviewed image laid body laidRecords laidRecord crcLength check spelled sixteenAt tab flatten covered checkOver promSigAt first chain visit next round16 le32 le64 crc32 shift shifts step32 judged rule20 rule21 rule22 rule23 rule24 rule25 rule26 rule27 rule28 rule29 rule30 rule31 rule32 rule33 misplaced gapUsed expected outOfOrder endAt mapAt boardAt laterAt shapeAt shapeOf listedShape records badMapHead badBoardHead badPromSigHead badHash badHashOf hashSize badMap badMapField badMapRecord badBoardType badInside reservedUsed badLabel textEnd isLabelText isText nonzero all le16
+unfolding written checked reviewed image laid body laidRecords laidRecord crcLength check spelled sixteenAt tab flatten covered checkOver promSigAt first chain visit next round16 le32 le64 crc32 shift shifts step32 judged rule20 rule21 rule22 rule23 rule24 rule25 rule26 rule27 rule28 rule29 rule30 rule31 rule32 rule33 rule34 misplaced gapUsed expected outOfOrder endAt mapAt boardAt laterAt shapeAt shapeOf listedShape records badMapHead badBoardHead badPromSigHead badHash badHashOf hashSize badMap badMapField badMapRecord repeatedLabel badBoardType badInside reservedUsed badLabel textEnd isLabelText isText nonzero difference sameRun all le16
 calls-hold = refl
 
 -- ---- case 13: what laws/Written and laws/Rebuilt claim of every image, here by computation alone; and an image with a `$PromSig`, which the reader accepts
@@ -105,5 +107,5 @@ pub record Computed : Type 0 where
   pub signed : judged full imageSigned ≡ Accepted 4
 
 pub computed : Computed
-unfolding written checked reviewed image laid body laidRecords laidRecord crcLength check spelled sixteenAt tab flatten covered checkOver promSigAt first chain visit next round16 le32 le64 crc32 shift shifts step32 judged rule20 rule21 rule22 rule23 rule24 rule25 rule26 rule27 rule28 rule29 rule30 rule31 rule32 rule33 misplaced gapUsed expected outOfOrder endAt mapAt boardAt laterAt shapeAt shapeOf listedShape records badMapHead badBoardHead badPromSigHead badHash badHashOf hashSize badMap badMapField badMapRecord badBoardType badInside reservedUsed badLabel textEnd isLabelText isText nonzero all le16 partsOf recordsOf mapRecordAt eepromAt eeprMapAt brdInfoAt
+unfolding written checked reviewed image laid body laidRecords laidRecord crcLength check spelled sixteenAt tab flatten covered checkOver promSigAt first chain visit next round16 le32 le64 crc32 shift shifts step32 judged rule20 rule21 rule22 rule23 rule24 rule25 rule26 rule27 rule28 rule29 rule30 rule31 rule32 rule33 rule34 misplaced gapUsed expected outOfOrder endAt mapAt boardAt laterAt shapeAt shapeOf listedShape records badMapHead badBoardHead badPromSigHead badHash badHashOf hashSize badMap badMapField badMapRecord repeatedLabel badBoardType badInside reservedUsed badLabel textEnd isLabelText isText nonzero all le16 partsOf recordsOf mapRecordAt eepromAt eeprMapAt brdInfoAt
 computed = record { written13 = refl; again = refl; back = refl; accepted13 = refl; signed = refl }

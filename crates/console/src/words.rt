@@ -29,6 +29,7 @@ pub fn put_words(number: u8) {
         31 => put(b"BoardType is above 1"),
         32 => put(b"a reserved byte is not zero"),
         33 => put(b"a structure is too short, or a field of it is wrong"),
+        34 => put(b"two map records have the same label"),
         40 => put(b"the image would have over 255 bytes, or as a board over 65536"),
         41 => put(b"the lent buffer is too short for the image"),
         42 => put(b"no item, record or string has this number"),

@@ -21,10 +21,10 @@ use Rattle.board_layout.specs.Layout.{shapeAt, endAt, round16, next, mapAt, boa
 use Rattle.board_layout.specs.Shapes.{listedShape, shapeOf, HasRecords}
 use Rattle.board_layout.specs.declared.Records.{Records}
 use Rattle.board_layout.specs.declared.Records.the-variants.{Map, Gpio}
-use Rattle.board_records.specs.Records.{badMapRecord, badGpioRecord}
+use Rattle.board_records.specs.Records.{badMapRecord, repeatedLabel, badGpioRecord}
 use Rattle.board_rules.specs.Examples.{zeros, head, image, logo}
 use Rattle.board_rules.specs.Judged.{judged}
-use Rattle.board_rules.specs.Rules.{rule20, rule21, rule22, rule23, rule24, rule25, rule26, rule27, rule28, rule29, rule30, rule31, rule32, rule33, misplaced, gapUsed, expected, outOfOrder, promSigAt, covered, checkOver}
+use Rattle.board_rules.specs.Rules.{rule20, rule21, rule22, rule23, rule24, rule25, rule26, rule27, rule28, rule29, rule30, rule31, rule32, rule33, rule34, misplaced, gapUsed, expected, outOfOrder, promSigAt, covered, checkOver}
 use Rattle.chain.specs.Chain.{visit, chain}
 use Rattle.chain.specs.Fill.{tab}
 use Rattle.chain.specs.First.{first}
@@ -74,11 +74,11 @@ abbrev blue : List ℕ
 blue = image 0x110 0x339A9F5D 0x110 (logo 0x30 0 ++ replicate 16 0x42)
 
 accepts-blue : Accepted (answers Board full blue)
-unfolding answers hidden itemNumbered listOf entryAt onward moved shown walked stepNumbered mapRecordNumbered gpioRecordNumbered restAt eepromAt eeprMapAt brdInfoAt itemAt mapRecordAt gpioRecordAt judged rule20 rule21 rule22 rule23 rule24 rule25 rule26 rule27 rule28 rule29 rule30 rule31 rule32 rule33 misplaced gapUsed expected outOfOrder promSigAt covered checkOver badMapHead badBoardHead badPromSigHead badHash badHashOf hashSize badMap badMapField badMapRecord badGpioRecord badBoardType reservedUsed badInside badGpio shapeAt shapeOf listedShape endAt round16 next mapAt boardAt laterAt records visit chain first nth tab le16 le32 le64 sixteenAt nonzero isText isLabelText textEnd badLabel listed picked all same crc32 shift shifts step32
+unfolding answers hidden itemNumbered listOf entryAt onward moved shown walked stepNumbered mapRecordNumbered gpioRecordNumbered restAt eepromAt eeprMapAt brdInfoAt itemAt mapRecordAt gpioRecordAt judged rule20 rule21 rule22 rule23 rule24 rule25 rule26 rule27 rule28 rule29 rule30 rule31 rule32 rule33 rule34 misplaced gapUsed expected outOfOrder promSigAt covered checkOver badMapHead badBoardHead badPromSigHead badHash badHashOf hashSize badMap badMapField badMapRecord repeatedLabel badGpioRecord badBoardType reservedUsed badInside badGpio shapeAt shapeOf listedShape endAt round16 next mapAt boardAt laterAt records visit chain first nth tab le16 le32 le64 sixteenAt nonzero isText isLabelText textEnd badLabel listed picked all same crc32 shift shifts step32
 accepts-blue = (4, refl)
 
 blue-logo : AgreeBut Board (NotShown full instances.one) instances.one blue
-unfolding answers hidden itemNumbered listOf entryAt onward moved shown walked stepNumbered mapRecordNumbered gpioRecordNumbered restAt eepromAt eeprMapAt brdInfoAt itemAt mapRecordAt gpioRecordAt judged rule20 rule21 rule22 rule23 rule24 rule25 rule26 rule27 rule28 rule29 rule30 rule31 rule32 rule33 misplaced gapUsed expected outOfOrder promSigAt covered checkOver badMapHead badBoardHead badPromSigHead badHash badHashOf hashSize badMap badMapField badMapRecord badGpioRecord badBoardType reservedUsed badInside badGpio shapeAt shapeOf listedShape endAt round16 next mapAt boardAt laterAt records visit chain first nth tab le16 le32 le64 sixteenAt nonzero isText isLabelText textEnd badLabel listed picked all same crc32 shift shifts step32
+unfolding answers hidden itemNumbered listOf entryAt onward moved shown walked stepNumbered mapRecordNumbered gpioRecordNumbered restAt eepromAt eeprMapAt brdInfoAt itemAt mapRecordAt gpioRecordAt judged rule20 rule21 rule22 rule23 rule24 rule25 rule26 rule27 rule28 rule29 rule30 rule31 rule32 rule33 rule34 misplaced gapUsed expected outOfOrder promSigAt covered checkOver badMapHead badBoardHead badPromSigHead badHash badHashOf hashSize badMap badMapField badMapRecord repeatedLabel badGpioRecord badBoardType reservedUsed badInside badGpio shapeAt shapeOf listedShape endAt round16 next mapAt boardAt laterAt records visit chain first nth tab le16 le32 le64 sixteenAt nonzero isText isLabelText textEnd badLabel listed picked all same crc32 shift shifts step32
 blue-logo =
     record {
       length = refl;
@@ -134,5 +134,5 @@ record Told : Type 0 where
   four : answers Board full (fpga 4 0xA975C42C) .item 3 ≡ says (fpgaShown 4)
 
 told : Told
-unfolding answers hidden itemNumbered listOf entryAt onward moved shown walked stepNumbered mapRecordNumbered gpioRecordNumbered restAt eepromAt eeprMapAt brdInfoAt fpgaNfoAt itemAt mapRecordAt gpioRecordAt judged rule20 rule21 rule22 rule23 rule24 rule25 rule26 rule27 rule28 rule29 rule30 rule31 rule32 rule33 misplaced gapUsed expected outOfOrder promSigAt covered checkOver badMapHead badBoardHead badPromSigHead badHash badHashOf hashSize badMap badMapField badMapRecord badGpioRecord badBoardType reservedUsed badInside badFpga badGpio shapeAt shapeOf listedShape endAt round16 next mapAt boardAt laterAt records visit chain first nth tab le16 le32 le64 sixteenAt nonzero isText isLabelText textEnd badLabel listed picked all same crc32 shift shifts step32
+unfolding answers hidden itemNumbered listOf entryAt onward moved shown walked stepNumbered mapRecordNumbered gpioRecordNumbered restAt eepromAt eeprMapAt brdInfoAt fpgaNfoAt itemAt mapRecordAt gpioRecordAt judged rule20 rule21 rule22 rule23 rule24 rule25 rule26 rule27 rule28 rule29 rule30 rule31 rule32 rule33 rule34 misplaced gapUsed expected outOfOrder promSigAt covered checkOver badMapHead badBoardHead badPromSigHead badHash badHashOf hashSize badMap badMapField badMapRecord repeatedLabel badGpioRecord badBoardType reservedUsed badInside badFpga badGpio shapeAt shapeOf listedShape endAt round16 next mapAt boardAt laterAt records visit chain first nth tab le16 le32 le64 sixteenAt nonzero isText isLabelText textEnd badLabel listed picked all same crc32 shift shifts step32
 told = record { three = refl; four = refl }

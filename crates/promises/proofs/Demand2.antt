@@ -15,6 +15,7 @@ use Rattle.kinds.specs.Kinds.{full}
 use Rattle.kinds.specs.declared.Kinds.{Kinds}
 use Rattle.promises.proofs.Exactly.{texts-shown}
 use Rattle.promises.proofs.Fields.{fields-shown, major-shown, pool-count, strings-shown, no-name, records-shown}
+use Rattle.promises.proofs.Labels.{labels-shown, labels-given}
 use Rattle.promises.proofs.ReadBack.{written-tiny, written-board}
 use Rattle.promises.proofs.Verdicts.{accepted-by, says-count}
 use Rattle.promises.specs.Answers.{answers}
@@ -78,6 +79,8 @@ demand2 =
       strings = λ k s n e on. strings-shown k s n (accepted-by Tiny k s n e) on;
       noName = λ k s n e. no-name k s n (accepted-by Tiny k s n e);
       records = λ k s n e. records-shown k s n (accepted-by Board k s n e);
+      labels = λ k s n e. labels-shown k s n (accepted-by Board k s n e);
+      givenLabels = labels-given;
       tinyReadsBack = tiny-written.written-reads-back;
       boardReadsBack = λ x fits b n e. board-written.written-reads-back x b n e fits;
       tinyRebuilt = λ s n e octets b. tiny-rebuilt.rebuilt s n (accepted-by Tiny full s n e) b (octets 2);

@@ -177,7 +177,7 @@ module _ (k : Kinds) (s : List ℕ) (n : ℕ) (e : judged Board k s ≡ Accepted
   unfolding nth
   second = ap (λ (l : List ℕ). nth l 1) (structures-are k s n e)
 
-  map-by : (j : ℕ) → answers Board k s .further .mapRecord j ≡ mapRecordSaid (mapRecord s (nth (records Map s (mapAt s)) j))
+  pub map-by : (j : ℕ) → answers Board k s .further .mapRecord j ≡ mapRecordSaid (mapRecord s (nth (records Map s (mapAt s)) j))
   unfolding answers mapRecordNumbered
   map-by j = ap (λ (x : Judged). mapRecordSaid (mapRecordIf s j x)) e
 

@@ -11,6 +11,7 @@ pub mod Images
 pub mod Exactly
 pub mod Demand3
 pub mod ReadBack
+pub mod Labels
 pub mod Stand
 pub mod CompleteTiny
 pub mod CompleteBoard

@@ -14,10 +14,10 @@ use Rattle.board_fields.specs.Map.{badMap, badMapField, badBoardType}
 use Rattle.board_fields.specs.Reserved.{reservedUsed}
 use Rattle.board_layout.specs.Layout.{shapeAt, endAt, round16, next, mapAt, boardAt, laterAt, records}
 use Rattle.board_layout.specs.Shapes.{listedShape, shapeOf}
-use Rattle.board_records.specs.Records.{badMapRecord, badGpioRecord}
+use Rattle.board_records.specs.Records.{badMapRecord, repeatedLabel, badGpioRecord}
 use Rattle.board_rules.specs.Examples.{zeros, four, head, image, logo}
 use Rattle.board_rules.specs.Judged.{judged}
-use Rattle.board_rules.specs.Rules.{rule20, rule21, rule22, rule23, rule24, rule25, rule26, rule27, rule28, rule29, rule30, rule31, rule32, rule33, misplaced, gapUsed, expected, outOfOrder, promSigAt, covered, checkOver}
+use Rattle.board_rules.specs.Rules.{rule20, rule21, rule22, rule23, rule24, rule25, rule26, rule27, rule28, rule29, rule30, rule31, rule32, rule33, rule34, misplaced, gapUsed, expected, outOfOrder, promSigAt, covered, checkOver}
 use Rattle.chain.specs.Chain.{visit, chain}
 use Rattle.chain.specs.Fill.{tab}
 use Rattle.chain.specs.First.{first}
@@ -80,7 +80,7 @@ record Hides : Type 0 where
   pin : answers Board pinless pins .further .gpioRecord 3 0 ≡ hidden Board pinless (answers Board full pins) .further .gpioRecord 3 0
 
 hides : Hides
-unfolding answers hidden itemNumbered listOf entryAt onward moved shown walked stepNumbered mapRecordNumbered gpioRecordNumbered restAt eepromAt eeprMapAt brdInfoAt itemAt mapRecordAt gpioRecordAt judged rule20 rule21 rule22 rule23 rule24 rule25 rule26 rule27 rule28 rule29 rule30 rule31 rule32 rule33 misplaced gapUsed expected outOfOrder promSigAt covered checkOver badMapHead badBoardHead badPromSigHead badHash badHashOf hashSize badMap badMapField badMapRecord badGpioRecord badBoardType reservedUsed badInside badGpio shapeAt shapeOf listedShape endAt round16 next mapAt boardAt laterAt records visit chain first nth tab le16 le32 le64 sixteenAt nonzero isText isLabelText textEnd badLabel listed picked all same crc32 shift shifts step32
+unfolding answers hidden itemNumbered listOf entryAt onward moved shown walked stepNumbered mapRecordNumbered gpioRecordNumbered restAt eepromAt eeprMapAt brdInfoAt itemAt mapRecordAt gpioRecordAt judged rule20 rule21 rule22 rule23 rule24 rule25 rule26 rule27 rule28 rule29 rule30 rule31 rule32 rule33 rule34 misplaced gapUsed expected outOfOrder promSigAt covered checkOver badMapHead badBoardHead badPromSigHead badHash badHashOf hashSize badMap badMapField badMapRecord repeatedLabel badGpioRecord badBoardType reservedUsed badInside badGpio shapeAt shapeOf listedShape endAt round16 next mapAt boardAt laterAt records visit chain first nth tab le16 le32 le64 sixteenAt nonzero isText isLabelText textEnd badLabel listed picked all same crc32 shift shifts step32
 hides = record { item = refl; list = refl; step = refl; pin = refl }
 
 record Shows : Type 0 where
@@ -93,5 +93,5 @@ record Shows : Type 0 where
   steps : map (answers Board full one .walk) (3 ∷ 4 ∷ []) ≡ asStep (answers Board full one .item 3) ∷ says reader.noneLeft ∷ []
 
 shows : Shows
-unfolding answers hidden itemNumbered listOf entryAt onward moved shown walked stepNumbered mapRecordNumbered gpioRecordNumbered restAt eepromAt eeprMapAt brdInfoAt itemAt mapRecordAt gpioRecordAt judged rule20 rule21 rule22 rule23 rule24 rule25 rule26 rule27 rule28 rule29 rule30 rule31 rule32 rule33 misplaced gapUsed expected outOfOrder promSigAt covered checkOver badMapHead badBoardHead badPromSigHead badHash badHashOf hashSize badMap badMapField badMapRecord badGpioRecord badBoardType reservedUsed badInside badGpio shapeAt shapeOf listedShape endAt round16 next mapAt boardAt laterAt records visit chain first nth tab le16 le32 le64 sixteenAt nonzero isText isLabelText textEnd badLabel listed picked all same crc32 shift shifts step32
+unfolding answers hidden itemNumbered listOf entryAt onward moved shown walked stepNumbered mapRecordNumbered gpioRecordNumbered restAt eepromAt eeprMapAt brdInfoAt itemAt mapRecordAt gpioRecordAt judged rule20 rule21 rule22 rule23 rule24 rule25 rule26 rule27 rule28 rule29 rule30 rule31 rule32 rule33 rule34 misplaced gapUsed expected outOfOrder promSigAt covered checkOver badMapHead badBoardHead badPromSigHead badHash badHashOf hashSize badMap badMapField badMapRecord repeatedLabel badGpioRecord badBoardType reservedUsed badInside badGpio shapeAt shapeOf listedShape endAt round16 next mapAt boardAt laterAt records visit chain first nth tab le16 le32 le64 sixteenAt nonzero isText isLabelText textEnd badLabel listed picked all same crc32 shift shifts step32
 shows = record { exactly = refl; item = refl; list = refl; steps = refl }

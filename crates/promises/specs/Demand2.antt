@@ -2,9 +2,9 @@
 -- the writers write is accepted and reads back as given; an accepted image that a writer can make is rebuilt to the last byte." `Demand2` is the claim; it is
 -- proved in proofs/Demand2. Two premises are met by the types of every call, and contracts say so: an image is of bytes (`Octets`: the contract of
 -- `reader::judge`), and what a board is written of fits its fields (`Fits`: that of `board_writer::write`). Assumes nothing.
-use Prim.Native.Nat.{ℕ, _+_, _<_, _≤_}
+use Prim.Native.Nat.{ℕ, _+_, _*_, _<_, _≤_}
 use mathlib.Core.Bool.{true, false}
-use mathlib.Core.List.{List, [], _++_}
+use mathlib.Core.List.{List, [], _∷_, _++_}
 use mathlib.Core.Logic.{_⊎_, _↔_}
 use mathlib.Core.Path.{_≡_}
 use lib.ListN.{length, getD, take, drop}
@@ -22,7 +22,8 @@ use Rattle.chain.specs.declared.Found.the-variants.{At, Nothing}
 use Rattle.kinds.specs.Kinds.{full}
 use Rattle.kinds.specs.declared.Kind.the-variants.{Tag}
 use Rattle.kinds.specs.declared.Kinds.{Kinds}
-use Rattle.octets.specs.Bytes.{Octets, byte}
+use Rattle.octets.specs.Bytes.{Octets, byte, run}
+use Rattle.octets.specs.Rows.{Field, bytes}
 use Rattle.promises.specs.Answers.{TinyAnswers, BoardAnswers, answers, EachString}
 use Rattle.promises.specs.Demand1.{table}
 use Rattle.promises.specs.Hidden.{hasPool}
@@ -74,6 +75,13 @@ abbrev pub GpioRecordAt : Kinds → List ℕ → ℕ → ℕ → ℕ → Type 0
 GpioRecordAt k s i n r =
     (p : ℕ) × ((nth (structures s) i ≡ At p) × (knows k (shapeAt s p) ≡ true) × HasRecords Gpio (shapeAt s p) × (nth (records Gpio s p) n ≡ At r))
 
+-- record i of the map shows these bytes under "MapLabel"; and the label of record i of those given to the board writer, "seventeen bytes each"
+abbrev pub ShowsLabel : BoardAnswers → ℕ → List ℕ → Type 0
+ShowsLabel a i l = (more : List Field) × (a .mapRecord i ≡ says (("MapLabel", bytes l) ∷ more))
+
+abbrev pub givenLabel : board-parts.Parts → ℕ → List ℕ
+givenLabel x i = run (x .records) (board-parts.givenSize * i) 16
+
 -- ---- a tiny image that is accepted, to a reader with the pool
 pub record Strings (k : Kinds) (s : List ℕ) (a : TinyAnswers) : Type 0 where
   -- string i is text i of the split of the pool, and 42 comes where there is none
@@ -119,6 +127,12 @@ pub record Demand2 : Type 0 where
       → (answers Tiny k s .further .name b .0 ≡ refused 44 0) ↔ ((only (serials k s) ≡ Nothing) ⊎ (hasPool k ≡ false))
   -- records by number
   pub records : (k : Kinds) (s : List ℕ) (n : ℕ) → answers Board k s .judge ≡ says n → Records k s (answers Board k s .further)
+  -- paper 02, R-2: "Two map records whose sixteen label bytes are equal are now refused by every reader": records that show one MapLabel are one record
+  pub labels : (k : Kinds) (s : List ℕ) (n : ℕ) → answers Board k s .judge ≡ says n → (i j : ℕ) (l : List ℕ)
+      → ShowsLabel (answers Board k s .further) i l → ShowsLabel (answers Board k s .further) j l → i ≡ j
+  -- ".. and by the board writer": where a board is written, records that were given one label are one record
+  pub givenLabels : (x : board-parts.Parts) → board-parts.Fits x → (b : List ℕ) (n : ℕ) → writeSaid (board-writer.written x b .0) ≡ says n
+      → (i j : ℕ) → i < board-parts.recordCount x → j < board-parts.recordCount x → givenLabel x i ≡ givenLabel x j → i ≡ j
   -- "What the writers write is accepted and reads back as given". (A board reader refuses over 65,536 bytes, so it is asked of as many at most.)
   pub tinyReadsBack : (x : tiny-parts.Parts) (b : List ℕ) (n : ℕ) → writeSaid (tiny-writer.written x b .0) ≡ says n → tiny-back.ReadsBack x (tiny-writer.written x b .1)
   pub boardReadsBack : (x : board-parts.Parts) → board-parts.Fits x → (b : List ℕ) (n : ℕ) → writeSaid (board-writer.written x b .0) ≡ says n

@@ -1,4 +1,4 @@
--- Two images that agree up to place b: what rules 26 and 29 to 33 say of a structure that lies before b is the same. A head is read whole; of what follows
+-- Two images that agree up to place b: what rules 26 and 29 to 34 say of a structure that lies before b is the same. A head is read whole; of what follows
 -- it only what lies within the structure's Length. Assumes nothing.
 use Prim.Native.Nat.{ℕ, _+_, _-_, _*_, _/_, _%_, _≤_}
 use mathlib.Core.Bool.{Bool, true, false, not, cond}
@@ -21,8 +21,8 @@ use Rattle.board_layout.specs.declared.Shape.{Shape}
 use Rattle.board_layout.specs.declared.Shape.the-variants.{Eeprom, EeprMap, BrdInfo, PromSig, AcpiTbl, FpgaNfo, GpioDat, HdCodec, Logo, MemCnfg, MacInfo, UCode, Video, Other}
 use Rattle.board_layout.specs.laws.Records.{records-fit}
 use Rattle.board_layout.specs.laws.Same.{major-same, minor-same, length-same, end-same, records-same}
-use Rattle.board_records.specs.Records.{badMapRecord, badGpioRecord, fieldUsed, recordUsed}
-use Rattle.board_records.specs.laws.Same.{bad-map-record-same, bad-gpio-record-same, field-used-same, record-used-same}
+use Rattle.board_records.specs.Records.{badMapRecord, repeatedLabel, badGpioRecord, fieldUsed, recordUsed}
+use Rattle.board_records.specs.laws.Same.{bad-map-record-same, repeated-label-same, bad-gpio-record-same, field-used-same, record-used-same}
 use Rattle.chain.specs.All.{All}
 use Rattle.chain.specs.First.{checks, first, orElse, when}
 use Rattle.chain.specs.declared.Found.{Found}
@@ -78,13 +78,24 @@ module _ (s t : List ℕ) (b : ℕ) (same : Same s t 0 b) (p : ℕ) (room : p + 
         ∷ when (ltb 3 (same (p + Speed) (omega arith) (omega arith) i)) (p + Speed)
         ∷ [])
 
+    -- a rule along its records: two tests that agree at each record before b find the same
+    map-records-same : MapData ≤ lengthAt s p → (lengthAt s p - MapData) % mapRecordSize ≡ 0
+        → (f g : ℕ → Found) → ((r : ℕ) → r + mapRecordSize ≤ b → f r ≡ g r) → first f (records Map s p) ≡ first g (records Map t p)
+    map-records-same h whole f g agree =
+        along-same Map f g
+        (all-map (λ r. (p + MapData ≤ r) × (r + mapRecordSize ≤ endAt s p)) (λ r. f r ≡ g r) (λ r w. agree r (omega (arith, w .1))) (records Map s p)
+        (records-fit Map s p h whole))
+
     pub bad-map-same : structLen s ≡ structLen t → MapData ≤ lengthAt s p → (lengthAt s p - MapData) % mapRecordSize ≡ 0 → badMap s p ≡ badMap t p
     unfolding badMap endAt
     bad-map-same e h whole =
         ap₂ orElse (map-field-same e h)
-        (along-same Map (badMapRecord s p) (badMapRecord t p)
-        (all-map (λ r. (p + MapData ≤ r) × (r + mapRecordSize ≤ endAt s p)) (λ r. badMapRecord s p r ≡ badMapRecord t p r)
-        (λ r w. bad-map-record-same s t b same p r (omega arith) (omega (arith, w .1))) (records Map s p) (records-fit Map s p h whole)))
+        (map-records-same h whole (badMapRecord s p) (badMapRecord t p) (λ r k. bad-map-record-same s t b same p r (omega arith) k))
+
+    -- rule 34
+    pub repeated-labels-same : MapData ≤ lengthAt s p → (lengthAt s p - MapData) % mapRecordSize ≡ 0
+        → first (repeatedLabel s p) (records Map s p) ≡ first (repeatedLabel t p) (records Map t p)
+    repeated-labels-same h whole = map-records-same h whole (repeatedLabel s p) (repeatedLabel t p) (repeated-label-same s t b same p)
 
     -- rule 31
     pub bad-board-type-same : reservedFrom BrdInfo ≤ lengthAt s p → badBoardType s p ≡ badBoardType t p

@@ -12,6 +12,12 @@ bad-map-record-requires c κs = search needs
 enum-told-2 : tie.Need-enum-told-2
 enum-told-2 c = search needs
 
+repeated-label-requires : tie.Need-repeated-label-requires
+repeated-label-requires c κs = search needs
+
+enum-told-3 : tie.Need-enum-told-3
+enum-told-3 c = search needs
+
 bad-gpio-record-requires : tie.Need-bad-gpio-record-requires
 bad-gpio-record-requires c κs = search needs
 
@@ -34,10 +40,13 @@ returns : tie.Need-returns
 returns c = rw (c .before .enum-told .given .1) (c .bad-map-record .ensures)
 
 returns-2 : tie.Need-returns-2
-returns-2 c = rw (c .before .enum-told2 .given .1) (c .bad-gpio-record .ensures)
+returns-2 c = rw (c .before .enum-told2 .given .1) (c .repeated-label .ensures)
 
 returns-3 : tie.Need-returns-3
-returns-3 c = rw (c .before .before .before .before .before .rule .given .1, ← (c .before .record-to .ensures), ← (c .before .before .record-from .ensures), ← (c .before .before .before .end-at .ensures)) (c .field-used .ensures)
+returns-3 c = rw (c .before .enum-told3 .given .1) (c .bad-gpio-record .ensures)
+
+returns-4 : tie.Need-returns-4
+returns-4 c = rw (c .before .before .before .before .before .rule .given .1, ← (c .before .record-to .ensures), ← (c .before .before .record-from .ensures), ← (c .before .before .before .end-at .ensures)) (c .field-used .ensures)
 
 pub ask-record-spec : {M : Type 1} → statement M
 ask-record-spec =
@@ -46,6 +55,8 @@ ask-record-spec =
     enum-told
     bad-map-record-requires
     enum-told-2
+    repeated-label-requires
+    enum-told-3
     bad-gpio-record-requires
     enum-known-rule
     end-at-requires
@@ -54,4 +65,5 @@ ask-record-spec =
     field-used-requires
     returns
     returns-2
-    returns-3)
+    returns-3
+    returns-4)

@@ -11,7 +11,7 @@ use Rattle.board_layout.specs.Places.{headSize, StructLen, MapData, mapRecordSi
 use Rattle.board_layout.specs.declared.Records.the-variants.{Map}
 use Rattle.board_layout.specs.laws.Layout.{next-grows, next-round, structure-below}
 use Rattle.board_layout.specs.laws.Records.{records-fit}
-use Rattle.board_rules.specs.Broken.{StructureAt, Second, DueAt, GpioRecordAt, Broken20, Broken21, Broken22, Broken23, Broken24, Broken25, Broken26, Broken27, Broken28, Broken29, Broken30, Broken31, Broken32, Broken33, table}
+use Rattle.board_rules.specs.Broken.{StructureAt, Second, DueAt, GpioRecordAt, Broken20, Broken21, Broken22, Broken23, Broken24, Broken25, Broken26, Broken27, Broken28, Broken29, Broken30, Broken31, Broken32, Broken33, Broken34, table}
 use Rattle.board_rules.specs.Judged.{judged}
 use Rattle.board_rules.specs.laws.Accepted.{accepted-count, lent-within, struct-len-within}
 use Rattle.board_rules.specs.laws.Table.{refused-exactly}
@@ -88,7 +88,7 @@ module _ (k : Kinds) (s : List ℕ) where
     head-most q (Broken26.mapLength a h) = start-most q (1, a)
     head-most q (Broken26.promSigLength a h) = start-most q (a .0)
 
-    -- ---- rules 29 to 33, where each structure keeps rule 23
+    -- ---- rules 29 to 34, where each structure keeps rule 23
     module _ (walk : Nowhere (Broken23 k s)) where
       -- it has room for a head
       room-most : (p : ℕ) → StructureAt k s p → p + headSize ≤ 65536
@@ -117,7 +117,7 @@ module _ (k : Kinds) (s : List ℕ) where
       inside-most q (Broken33.gpioLabel p r a h) = omega (arith, gpio-most p r a, h .stands, h .bad .within)
       inside-most q (Broken33.dataSizeOther p r a e h i j) = omega (arith, gpio-most p r a)
 
-      -- rules 30 and 31 look into the map and the board, whose Lengths rule 26 gives
+      -- rules 30, 34 and 31 look into the map and the board, whose Lengths rule 26 gives
       module _ (head : Nowhere (Broken26 k s)) where
         map-whole : (m : ℕ) → Second k s m → (0x50 ≤ lengthAt s m) × ((lengthAt s m - MapData) % mapRecordSize ≡ 0)
         map-whole m a = (
@@ -155,6 +155,10 @@ module _ (k : Kinds) (s : List ℕ) where
         map-most q (Broken30.recordOffset m j r a c e h) = omega (arith, record-most m r a (j, c))
         map-most q (Broken30.addressOver7F m r a c e h) = omega (arith, record-most m r a c)
 
+        -- a record's label
+        label-most : (q : ℕ) → Broken34 k s q → q ≤ 65536
+        label-most q (Broken34.labelRepeated m i j e r a b c less same place) = omega (arith, record-most m r a (j, c))
+
         -- BoardType
         board-most : (q : ℕ) → Broken31 k s q → q ≤ 65536
         unfolding endAt
@@ -180,14 +184,15 @@ module _ (k : Kinds) (s : List ℕ) where
             row (λ q b. elim b [ Broken28.boardPast4096 a h ↦ start-most most q (2, a) ]) λ _.
             row (hash-most most walk) λ _.
             row (map-most most walk head) λ _.
+            row (label-most most walk head) λ _.
             row (board-most most walk head) λ _.
             row (reserved-most most walk) λ _.
             row (inside-most most walk) λ _. tt,
       )
 
-  -- a refusal has a number from 20 to 33, and a place of at most 65,536
-  pub refused-bounds : (n p : ℕ) → judged k s ≡ refusal n p → (20 ≤ n) × (n ≤ 33) × (p ≤ 65536)
-  refused-bounds n p e = first-within 20 33 65536 (table k s) refl bounded n p (refused-exactly k s n p .0 e)
+  -- a refusal has a number from 20 to 34, and a place of at most 65,536
+  pub refused-bounds : (n p : ℕ) → judged k s ≡ refusal n p → (20 ≤ n) × (n ≤ 34) × (p ≤ 65536)
+  refused-bounds n p e = first-within 20 34 65536 (table k s) refl bounded n p (refused-exactly k s n p .0 e)
 
   -- an accepted image has at most 65,536 items, and a StructLen of at most 65,536
   pub accepted-bounds : (n : ℕ) → judged k s ≡ Accepted n → (n ≤ 65536) × (structLen s ≤ 65536)

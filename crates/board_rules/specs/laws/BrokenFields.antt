@@ -1,9 +1,10 @@
--- Rules 29, 30 and 31 find the smallest place where they are broken. By rules 21 and 25 the structures that they speak of are those that the searches look into;
--- in each the clauses stand in ascending order of place, and the map's records follow its fields. Assumes nothing.
+-- Rules 29, 30, 34 and 31 find the smallest place where they are broken. By rules 21 and 25 the structures that they speak of are those that the searches look into;
+-- in each the clauses stand in ascending order of place, and the map's records follow its fields. The records before another are those of smaller numbers.
+-- Assumes nothing.
 use Prim.Native.Nat.{ℕ, _+_, _*_, _≤_, _<_}
 use mathlib.Core.Bool.{Bool, true, false, not, cond, true≢false}
 use mathlib.Core.List.{List, [], _∷_}
-use mathlib.Core.Logic.{_⊎_, inl, inr}
+use mathlib.Core.Logic.{_⊎_, inl, inr, _↔_}
 use mathlib.Core.Path.{_≡_, refl, sym, _∙_}
 use native.Mathlib.Omega.{arith}
 use lib.Dec.{eqb, ltb, leb}
@@ -12,23 +13,27 @@ use Rattle.board_fields.specs.Map.{badMapField, badMap, badBoardType}
 use Rattle.board_layout.specs.Layout.{lengthAt, structLen, endAt, mapAt, boardAt, records, mapCount}
 use Rattle.board_layout.specs.Places.{HashType, EepromSig, PartLabel, BlkLength, PartSize, Master, Speed, MapData, MapLabel, MapLength, MapOffset, Address, mapRecordSize, BoardType}
 use Rattle.board_layout.specs.declared.Records.the-variants.{Map}
-use Rattle.board_records.specs.Records.{mapNumber, badMapRecord}
-use Rattle.board_rules.specs.Broken.{Second, Third, PromSigAt, Broken29, Broken30, Broken31}
-use Rattle.board_rules.specs.Rules.{rule21, rule25, rule29, rule30, rule31}
+use Rattle.board_records.specs.Records.{mapNumber, badMapRecord, earlier, sameLabel, repeatedLabel}
+use Rattle.board_rules.specs.Broken.{Second, Third, PromSigAt, Broken29, Broken30, Broken31, Broken34}
+use Rattle.board_rules.specs.Rules.{rule21, rule25, rule29, rule30, rule31, rule34}
 use Rattle.board_rules.specs.laws.BrokenPlaces.{second-is, third-is, finds-on-prom-sig}
 use Rattle.board_rules.specs.laws.BrokenRecords.{record-after, InRecord, finds-records}
-use Rattle.chain.specs.Finds.{Finds}
-use Rattle.chain.specs.First.{first}
+use Rattle.chain.specs.Chain.{ahead}
+use Rattle.chain.specs.Finds.{Among, Finds}
+use Rattle.chain.specs.First.{first, when}
 use Rattle.chain.specs.Nth.{nth}
 use Rattle.chain.specs.declared.Found.the-variants.{At, Nothing}
+use Rattle.chain.specs.laws.Among.{nth-before}
 use Rattle.chain.specs.laws.Clauses.{Clause, test, over, under, other, several}
-use Rattle.chain.specs.laws.Finds.{finds-as, finds-one, finds-both}
+use Rattle.chain.specs.laws.Finds.{finds-as, finds-one, finds-some, finds-both}
 use Rattle.chain.specs.laws.First.{when-place}
 use Rattle.chain.specs.laws.Means.{means-above, means-false, Means, means-equal, means-under, means-other, means-both}
-use Rattle.chain.specs.laws.Steps.{steps-place}
+use Rattle.chain.specs.laws.Steps.{ahead-grows, steps-place}
 use Rattle.kinds.specs.declared.Kinds.{Kinds}
 use Rattle.octets.specs.Bytes.{byte, le16, le32}
+use Rattle.octets.specs.Label.{label}
 use Rattle.octets.specs.laws.LabelBad.{ofLabel}
+use Rattle.octets.specs.laws.Runs.{means-same-run}
 
 -- ---- what is asked of one structure
 -- a Length that does not fit: by the signed flag, not e, or under e
@@ -123,6 +128,28 @@ module _ (s : List ℕ) where
       let d : q ≡ r = when-place (ltb q (endAt s m)) q r (sym (steps-place mapRecordSize (omega arith) j (m + MapData) (endAt s m)) ∙ e) in
       omega arith
 
+  -- the label of the record at r equals that of a record before it
+  abbrev Repeated : ℕ → ℕ → ℕ → Type 0
+  Repeated m r z = (z ≡ r + MapLabel) × ((e : ℕ) × (Among (earlier m r) e × (label s (e + MapLabel) ≡ label s (r + MapLabel))))
+
+  finds-repeated : (m r : ℕ) → Finds (Repeated m r) (repeatedLabel s m r)
+  unfolding repeatedLabel
+  finds-repeated m r =
+      finds-as Tested (Repeated m r) (λ z h. (h .0, (h .1 .0, (h .1 .1 .0, means (h .1 .0) .0 (h .1 .1 .1)))))
+      (λ z h. (h .0, (h .1 .0, (h .1 .1 .0, means (h .1 .0) .1 (h .1 .1 .1))))) (first (λ e. when (sameLabel s e r) (r + MapLabel)) (earlier m r))
+      (finds-some (λ e. sameLabel s e r) (r + MapLabel) (earlier m r))
+    where
+      Tested : ℕ → Type 0
+      Tested z = (z ≡ r + MapLabel) × ((e : ℕ) × (Among (earlier m r) e × (sameLabel s e r ≡ true)))
+
+      means : (e : ℕ) → Means (sameLabel s e r) (label s (e + MapLabel) ≡ label s (r + MapLabel))
+      means e = means-same-run s (e + MapLabel) s (r + MapLabel) 16
+
+  -- the records before record j are those of smaller numbers
+  record-before : (m j r i e : ℕ) → nth (records Map s m) j ≡ At r → (nth (earlier m r) i ≡ At e) ↔ ((i < j) × (nth (records Map s m) i ≡ At e))
+  unfolding records
+  record-before m j r i e = nth-before (ahead mapRecordSize) (ahead-grows mapRecordSize (omega arith)) (endAt s m) j (m + MapData) r i e
+
 module _ (k : Kinds) (s : List ℕ) where
   -- ---- 29: a `$PromSig` is broken at z
   abbrev HashBroken : ℕ → Type 0
@@ -184,6 +211,26 @@ module _ (k : Kinds) (s : List ℕ) where
       back z (Broken30.recordOffset m j r e a place b) =
           (m, (e, inr (r, ((j, a), inr (inr (inl (place, rw (record-number s m j r a) b)))))))
       back z (Broken30.addressOver7F m r e a place b) = (m, (e, inr (r, (a, inr (inr (inr (inl (place, b))))))))
+
+  -- ---- 34: a record of the second structure has the label of one before it
+  abbrev LabelBroken : ℕ → Type 0
+  LabelBroken z = (m : ℕ) × (Second k s m × InRecord Map s m (Repeated s m) z)
+
+  pub finds34 : rule25 s ≡ Nothing → Finds (Broken34 k s) (rule34 s)
+  unfolding rule34
+  finds34 order =
+      finds-as LabelBroken (Broken34 k s) to back (rule34 s)
+      (finds-one (Second k s) (mapAt s) (second-is k s order) (λ m. InRecord Map s m (Repeated s m)) (rule34 s)
+      (finds-records Map s (mapAt s) (repeatedLabel s (mapAt s)) (Repeated s (mapAt s)) (λ r z b. (omega (arith, b .0), omega (arith, b .0))) (λ r a. finds-repeated s (mapAt s) r)))
+    where
+      to : (z : ℕ) → LabelBroken z → Broken34 k s z
+      to z (m, (second, (r, ((j, a), (place, (e, ((i, b), same))))))) =
+          let before = record-before s m j r i e a .0 b in
+          Broken34.labelRepeated m i j e r second (before .1) a (before .0) same place
+
+      back : (z : ℕ) → Broken34 k s z → LabelBroken z
+      back z (Broken34.labelRepeated m i j e r second b a less same place) =
+          (m, (second, (r, ((j, a), (place, (e, ((i, record-before s m j r i e a .1 (less, b)), same)))))))
 
   -- ---- 31: the third is
   abbrev BoardBroken : ℕ → Type 0

@@ -124,9 +124,9 @@ module _ (k : Kinds) (s : List ℕ) (n : ℕ) (e : judged k s ≡ Accepted n) wh
   -- rule 32: no reserved byte of a known structure with VerMinor 0 is used
   pub reserved-zero : All (λ p. knows k (shapeAt s p) ≡ true → reservedUsed s p (shapeAt s p) ≡ Nothing) (structures s)
   unfolding rule32
-  reserved-zero = known-clear k s (reservedUsed s) (accepted-clear k s n e .1 .1 .1 .1 .1 .1 .1 .1 .1 .1 .1 .1 .0)
+  reserved-zero = known-clear k s (reservedUsed s) (accepted-clear k s n e .1 .1 .1 .1 .1 .1 .1 .1 .1 .1 .1 .1 .1 .0)
 
   -- rule 33: a known structure has its fixed part, and its fields and records are good
   pub inside-good : All (λ p. knows k (shapeAt s p) ≡ true → badInside s p (shapeAt s p) ≡ Nothing) (structures s)
   unfolding rule33
-  inside-good = known-clear k s (badInside s) (accepted-clear k s n e .1 .1 .1 .1 .1 .1 .1 .1 .1 .1 .1 .1 .1 .0)
+  inside-good = known-clear k s (badInside s) (accepted-clear k s n e .1 .1 .1 .1 .1 .1 .1 .1 .1 .1 .1 .1 .1 .1 .0)

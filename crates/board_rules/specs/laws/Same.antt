@@ -15,15 +15,17 @@ use Rattle.board_fields.specs.Heads.{badMapHead, badBoardHead, badPromSigHead}
 use Rattle.board_fields.specs.Inside.{badInside}
 use Rattle.board_fields.specs.Map.{badMap, badBoardType}
 use Rattle.board_fields.specs.Reserved.{reservedUsed}
-use Rattle.board_fields.specs.laws.Same.{bad-map-head-same, bad-board-head-same, bad-prom-sig-head-same, bad-hash-same, bad-map-same, bad-board-type-same, reserved-used-same, bad-inside-same}
-use Rattle.board_layout.specs.Layout.{signatureAt, shapeAt, structLen, endAt, next, structures, mapAt, boardAt, laterAt}
+use Rattle.board_fields.specs.laws.Same.{bad-map-head-same, bad-board-head-same, bad-prom-sig-head-same, bad-hash-same, bad-map-same, repeated-labels-same, bad-board-type-same, reserved-used-same, bad-inside-same}
+use Rattle.board_layout.specs.Layout.{signatureAt, shapeAt, structLen, endAt, next, structures, mapAt, boardAt, laterAt, records}
 use Rattle.board_layout.specs.Places.{headSize, StructLen, Crc32, CrcLength}
 use Rattle.board_layout.specs.Shapes.{knows}
+use Rattle.board_layout.specs.declared.Records.the-variants.{Map}
 use Rattle.board_layout.specs.declared.Shape.{Shape}
 use Rattle.board_layout.specs.laws.Layout.{next-grows, end-next}
 use Rattle.board_layout.specs.laws.Same.{signature-same, major-same, length-same, shape-same, end-same, next-same, struct-len-same, part-same, head-same, walk-same, structures-same, map-place-same}
+use Rattle.board_records.specs.Records.{repeatedLabel}
 use Rattle.board_rules.specs.Judged.{rules, judged}
-use Rattle.board_rules.specs.Rules.{headerLength, rule20, rule21, rule22, misplaced, rule23, gapUsed, rule24, expected, isEarly, outOfOrder, rule25, isPromSig, promSigAt, onFound, rule26, coveredUpTo, covered, checkOver, rule27, rule28, rule29, rule30, rule31, onKnown, rule32, rule33}
+use Rattle.board_rules.specs.Rules.{headerLength, rule20, rule21, rule22, misplaced, rule23, gapUsed, rule24, expected, isEarly, outOfOrder, rule25, isPromSig, promSigAt, onFound, rule26, coveredUpTo, covered, checkOver, rule27, rule28, rule29, rule30, rule31, onKnown, rule32, rule33, rule34}
 use Rattle.chain.specs.laws.Checks.{kept-under}
 use Rattle.board_rules.specs.laws.Heads.{map-head, board-head, prom-sig-head, covered-within}
 use Rattle.board_rules.specs.laws.Order.{expected-there}
@@ -245,6 +247,13 @@ module _ (s t : List ℕ) (long : 0x30 ≤ structLen s) (same : Same s t 0 (stru
             (omega (arith, map-head s heads .1))
             ∙ ap (badMap t) map-moved
 
+        rule34-same : rule34 s ≡ rule34 t
+        unfolding rule34
+        rule34-same =
+            repeated-labels-same s t (structLen s) same (mapAt s) (map-fits .room) (map-fits .ends) (omega (arith, map-head s heads .1))
+            (omega (arith, map-head s heads .1))
+            ∙ ap (λ (m : ℕ). first (repeatedLabel t m) (records Map t m)) map-moved
+
         rule31-same : rule31 s ≡ rule31 t
         unfolding rule31
         rule31-same =
@@ -322,9 +331,10 @@ module _ (s t : List ℕ) (long : 0x30 ≤ structLen s) (same : Same s t 0 (stru
           agree-more (rule28-same walk order) (λ _.
           agree-more (rule29-same walk order heads) (λ _.
           agree-more (rule30-same walk order heads) (λ _.
+          agree-more (rule34-same walk order heads) (λ _.
           agree-more (rule31-same walk order heads) (λ _.
           agree-more (rule32-same walk k) (λ _.
-          agree-more (rule33-same walk k) (λ _. tt))))))))))))))
+          agree-more (rule33-same walk k) (λ _. tt)))))))))))))))
 
       -- every list gives both images one answer
       pub judged-same : (k : Kinds) → judged k s ≡ judged k t

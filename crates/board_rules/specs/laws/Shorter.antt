@@ -50,5 +50,5 @@ pub shorter-accepts : (longer shorter : Kinds) → Contains longer shorter → (
 unfolding judged
 shorter-accepts longer shorter c s n =
     weaker-accepts (rules longer s) (rules shorter s) (Accepted (length (structures s))) (Accepted (length (structures s))) n
-    (same, (same, (same, (same, (same, (same, (same, (same, (same, (same, (same, (same, (rule32-weaker longer shorter c s, (rule33-weaker longer shorter c s, tt))))))))))))))
+    (same, (same, (same, (same, (same, (same, (same, (same, (same, (same, (same, (same, (same, (rule32-weaker longer shorter c s, (rule33-weaker longer shorter c s, tt)))))))))))))))
     same

@@ -8,7 +8,7 @@ use lib.ListN.{length}
 use Rattle.board_layout.specs.Layout.{structures}
 use Rattle.board_rules.specs.Broken.{table}
 use Rattle.board_rules.specs.Judged.{rules, judged}
-use Rattle.board_rules.specs.laws.BrokenFields.{finds29, finds30, finds31}
+use Rattle.board_rules.specs.laws.BrokenFields.{finds29, finds30, finds31, finds34}
 use Rattle.board_rules.specs.laws.BrokenHeader.{finds20, finds21, finds22, finds27}
 use Rattle.board_rules.specs.laws.BrokenHeads.{finds26, finds28}
 use Rattle.board_rules.specs.laws.BrokenKnown.{finds32, finds33}
@@ -27,7 +27,8 @@ module _ (k : Kinds) (s : List ℕ) where
   searched =
       row (finds20 k s) λ e20. row (finds21 k s) λ e21. row (finds22 k s) λ e22. row (finds23 k s) λ e23. row (finds24 k s) λ e24.
       row (finds25 k s e21 e23) λ e25. row (finds26 k s e21 e25) λ e26. row (finds27 k s e21 e25) λ e27. row (finds28 k s e25) λ e28.
-      row (finds29 k s e21 e25) λ e29. row (finds30 k s e25) λ e30. row (finds31 k s e25) λ e31. row (finds32 k s) λ e32. row (finds33 k s) λ e33. tt
+      row (finds29 k s e21 e25) λ e29. row (finds30 k s e25) λ e30. row (finds34 k s e25) λ e34. row (finds31 k s e25) λ e31. row (finds32 k s) λ e32.
+      row (finds33 k s) λ e33. tt
 
   -- refused with n at p: n is the first row that is broken, and p its smallest place
   pub refused-exactly : (n p : ℕ) → (judged k s ≡ refusal n p) ↔ FirstBroken (table k s) n p

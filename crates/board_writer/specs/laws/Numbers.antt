@@ -8,7 +8,7 @@ use lib.ListN.{length}
 use borrow.Author.Tests.{le-ltb, eq-eqb}
 use Rattle.board_layout.specs.Layout.{signatureAt, majorAt, lengthAt, structLen, structures}
 use Rattle.board_rules.specs.Judged.{rules, judged}
-use Rattle.board_rules.specs.Rules.{headerLength, promSigAt, rule20, rule21, rule22, rule23, rule24, rule25, rule26, rule27, rule28, rule29, rule30, rule31, rule32, rule33}
+use Rattle.board_rules.specs.Rules.{headerLength, promSigAt, rule20, rule21, rule22, rule23, rule24, rule25, rule26, rule27, rule28, rule29, rule30, rule31, rule32, rule33, rule34}
 use Rattle.board_writer.specs.Image.{imageLength, body, laid, crcLength, check, image}
 use Rattle.board_writer.specs.Parts.{Parts, OfBytes}
 use Rattle.board_writer.specs.Written.{writerRules, unsigned, reviewed, checked, written}
@@ -99,6 +99,7 @@ left s =
     ∷ (28, rule28 s)
     ∷ (29, rule29 s)
     ∷ (30, rule30 s)
+    ∷ (34, rule34 s)
     ∷ (31, rule31 s)
     ∷ (32, rule32 full s)
     ∷ (33, rule33 full s)
@@ -113,14 +114,14 @@ review-left s w =
 
 -- the number of a refusal of it
 review-number : (bytes buffer : List ℕ) (n p : ℕ) → WellFormed bytes → Refuses bytes buffer n p (reviewed bytes)
-    → List·Memᴰ n (23 ∷ 24 ∷ 25 ∷ 26 ∷ 28 ∷ 29 ∷ 30 ∷ 31 ∷ 32 ∷ 33 ∷ 45 ∷ [])
+    → List·Memᴰ n (23 ∷ 24 ∷ 25 ∷ 26 ∷ 28 ∷ 29 ∷ 30 ∷ 34 ∷ 31 ∷ 32 ∷ 33 ∷ 45 ∷ [])
 review-number bytes buffer n p w e =
     rules-number bytes buffer n p (left bytes) (length (structures bytes)) (subst (Refuses bytes buffer n p) (review-left bytes w) e)
 
 -- so a refusal of the writer has one of these numbers
 pub refused-numbers : (x : Parts) (buffer : List ℕ) (n p : ℕ) → OfBytes x → writeSaid (written x buffer .0) ≡ refused n p
-    → List·Memᴰ n (46 ∷ (40 ∷ (41 ∷ (23 ∷ (24 ∷ (25 ∷ (26 ∷ (28 ∷ (29 ∷ (30 ∷ (31 ∷ (32 ∷ (33 ∷ (45 ∷ []))))))))))))))
+    → List·Memᴰ n (46 ∷ (40 ∷ (41 ∷ (23 ∷ (24 ∷ (25 ∷ (26 ∷ (28 ∷ (29 ∷ (30 ∷ (34 ∷ (31 ∷ (32 ∷ (33 ∷ (45 ∷ [])))))))))))))))
 unfolding written checked
 refused-numbers x buffer n p given e =
-    table-number (image x) buffer n p (writerRules x (length buffer)) (reviewed (image x)) (23 ∷ 24 ∷ 25 ∷ 26 ∷ 28 ∷ 29 ∷ 30 ∷ 31 ∷ 32 ∷ 33 ∷ 45 ∷ [])
+    table-number (image x) buffer n p (writerRules x (length buffer)) (reviewed (image x)) (23 ∷ 24 ∷ 25 ∷ 26 ∷ 28 ∷ 29 ∷ 30 ∷ 34 ∷ 31 ∷ 32 ∷ 33 ∷ 45 ∷ [])
     (λ c. review-number (image x) buffer n p (image-well-formed x (kept-under 65536 (imageLength x) 0 (c .1 .0)) (body-octets x given))) e

@@ -1,8 +1,8 @@
--- How searches are put together: one test, two searches one after the other, a search under a mark, over a range and along a chain. Each finds the smallest
--- place of what its parts find the smallest places of. Assumes nothing.
+-- How searches are put together: one test, a test of some item of a list, two searches one after the other, a search under a mark, over a range and along a
+-- chain. Each finds the smallest place of what its parts find the smallest places of. Assumes nothing.
 use Prim.Native.Nat.{ℕ, zero, suc, _≤_, _<_}
 use mathlib.Core.Bool.{Bool, true, false, cond, true≢false}
-use mathlib.Core.List.{List, _∷_}
+use mathlib.Core.List.{List, [], _∷_}
 use mathlib.Core.Logic.{_⊎_, inl, inr, _↔_}
 use mathlib.Core.Path.{_≡_, refl, sym, subst, _∙_}
 use native.Mathlib.Omega.{arith}
@@ -55,6 +55,32 @@ finds-both B C (At p) g h k order =
 finds-both B C Nothing (At p) h k order =
     (inr (k .0), λ q c. elim c [ inl b ↦ absurd (h q b) | inr d ↦ k .1 q d ])
 finds-both B C Nothing Nothing h k order = λ q c. elim c [ inl b ↦ h q b | inr d ↦ k q d ]
+
+-- ---- a test of each item of a list, with one place for all of them: some item passes
+pub finds-some : (test : ℕ → Bool) (q : ℕ) (l : List ℕ) → Finds (λ z. (z ≡ q) × ((x : ℕ) × (Among l x × (test x ≡ true)))) (first (λ x. when (test x) q) l)
+unfolding first nth
+finds-some test q [] = λ z h. at-nothing (sym (h .1 .1 .0 .1))
+finds-some test q (x ∷ xs) =
+    finds-as (λ z. Here z ⊎ Later z) (λ z. (z ≡ q) × ((y : ℕ) × (Among (x ∷ xs) y × (test y ≡ true)))) to back (orElse (when (test x) q) (first (λ y. when (test y) q) xs))
+    (finds-both Here Later (when (test x) q) (first (λ y. when (test y) q) xs) (finds-when Here (test x) q (λ e. (refl, e)) (λ z h. h)) (finds-some test q xs)
+    (λ y z h k. omega (arith, h .0, k .0)))
+  where
+    Here : ℕ → Type 0
+    Here z = (z ≡ q) × (test x ≡ true)
+
+    Later : ℕ → Type 0
+    Later z = (z ≡ q) × ((y : ℕ) × (Among xs y × (test y ≡ true)))
+
+    to : (z : ℕ) → Here z ⊎ Later z → (z ≡ q) × ((y : ℕ) × (Among (x ∷ xs) y × (test y ≡ true)))
+    to z (inl h) = (h .0, (x, ((0, refl), h .1)))
+    to z (inr h) = (h .0, (h .1 .0, ((suc (h .1 .1 .0 .0), h .1 .1 .0 .1), h .1 .1 .1)))
+
+    which : (i y z : ℕ) → nth (x ∷ xs) i ≡ At y → z ≡ q → test y ≡ true → Here z ⊎ Later z
+    which zero y z e d h = inl (d, let same : x ≡ y = cc in subst (λ (n : ℕ). test n ≡ true) (sym same) h)
+    which (suc i) y z e d h = inr (d, (y, ((i, e), h)))
+
+    back : (z : ℕ) → (z ≡ q) × ((y : ℕ) × (Among (x ∷ xs) y × (test y ≡ true))) → Here z ⊎ Later z
+    back z h = which (h .1 .1 .0 .0) (h .1 .0) z (h .1 .1 .0 .1) (h .0) (h .1 .1 .1)
 
 -- ---- over a range of numbers, each with a place that rises with it
 pub finds-range : (test : ℕ → Bool) (place : ℕ → ℕ) → ((i j : ℕ) → i ≤ j → place i ≤ place j) → (a b : ℕ)

@@ -10,6 +10,13 @@ use borrow.Author.Tests.{eqb-true, eq-eqb, ltb-true, lt-ltb, leb-true, le-leb, l
 abbrev pub Means : Bool → Type 0 → Type 0
 Means b P = (b ≡ true) ↔ P
 
+-- two tests that mean the same are one
+pub means-same : {P : Type 0} (a b : Bool) → Means a P → Means b P → a ≡ b
+means-same true true m n = refl
+means-same true false m n = sym (n .1 (m .0 refl))
+means-same false true m n = m .1 (n .0 refl)
+means-same false false m n = refl
+
 -- ---- of two numbers
 pub means-equal : (a b : ℕ) → Means (eqb a b) (a ≡ b)
 means-equal a b = (eqb-true a b, eq-eqb a b)

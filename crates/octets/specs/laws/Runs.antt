@@ -1,10 +1,11 @@
 -- Sixteen bytes as a list, what a comparison of two runs tells, and a search for a byte that is not zero. Assumes nothing.
 use Prim.Native.Nat.{ℕ, _+_, _-_, _≤_, _<_}
-use mathlib.Core.Bool.{true, not}
-use mathlib.Core.List.{List}
-use mathlib.Core.Logic.{inl, inr}
-use mathlib.Core.Path.{_≡_, refl, sym, ap, _∙_}
+use mathlib.Core.Bool.{true, not, _&&_}
+use mathlib.Core.List.{List, _++_}
+use mathlib.Core.Logic.{inl, inr, _↔_}
+use mathlib.Core.Path.{_≡_, refl, sym, ap, ap₂, _∙_}
 use native.Mathlib.Omega.{arith}
+use lib.Dec.{eqb}
 use borrow.Author.Tests.{eq-eqb, eqb-true, not-false}
 use Rattle.chain.specs.Fill.{tab}
 use Rattle.chain.specs.Finds.{Finds}
@@ -13,11 +14,12 @@ use Rattle.chain.specs.declared.Found.the-variants.{At, Nothing}
 use Rattle.chain.specs.laws.Below.{below}
 use Rattle.chain.specs.laws.Fill.{tab-agree}
 use Rattle.chain.specs.laws.Finds.{finds-as, finds-range}
-use Rattle.chain.specs.laws.Means.{means-other}
+use Rattle.chain.specs.laws.Means.{Means, means-same, means-equal, means-other, means-both}
 use Rattle.chain.specs.laws.Ranges.{Least, range-least, range-none, none-range}
-use Rattle.octets.specs.Bytes.{byte, run, le64}
+use Rattle.octets.specs.Bytes.{byte, Octets, run, little, le64}
 use Rattle.octets.specs.Runs.{sixteenAt, sixteenBytes, apart, difference, isNothing, sameRun, isSet, nonzero}
-use Rattle.octets.specs.laws.Bytes.{byte-run, le64-zero}
+use Rattle.octets.specs.laws.Bytes.{length-run, byte-run, run-octets, run-append, le64-zero}
+use Rattle.octets.specs.laws.Spelled.{little-injective}
 
 -- the list of the sixteen bytes at a place
 pub bytes-sixteen : (s : List ℕ) (p : ℕ) → sixteenBytes (sixteenAt s p) ≡ run s p 16
@@ -42,6 +44,42 @@ module _ (a : List ℕ) (p : ℕ) (b : List ℕ) (q n : ℕ) where
       ap isNothing
       (none-range (apart a p b q) (λ j. j) n 0
       (λ i k h. ap not (eq-eqb _ _ (sym (byte-run a p n i h) ∙ ap (λ (l : List ℕ). byte l i) e ∙ byte-run b q n i h))))
+
+  pub means-same-run : Means (sameRun a p b q n) (run a p n ≡ run b q n)
+  means-same-run = (same-is-equal, equal-is-same)
+
+-- ---- sixteen bytes as two numbers of eight
+module _ (a : List ℕ) (p : ℕ) (b : List ℕ) (q : ℕ) (good : Octets a) (fine : Octets b) where
+  -- numbers of eight bytes are equal exactly where the bytes are
+  eight-equal : (x y : ℕ) → (le64 a x ≡ le64 b y) ↔ (run a x 8 ≡ run b y 8)
+  unfolding le64
+  eight-equal x y = (
+    little-injective (run a x 8) (run b y 8) (run-octets a x 8 good) (run-octets b y 8 fine) (length-run a x 8 ∙ sym (length-run b y 8)),
+    ap little,
+  )
+
+  -- and sixteen bytes where both their halves are
+  halves-equal : ((run a p 8 ≡ run b q 8) × (run a (p + 8) 8 ≡ run b (q + 8) 8)) ↔ (run a p 16 ≡ run b q 16)
+  halves-equal = (
+    λ h. run-append a p 8 8 ∙ ap₂ (λ (l m : List ℕ). l ++ m) (h .0) (h .1) ∙ sym (run-append b q 8 8),
+    λ e.
+        let each : (i : ℕ) → i < 16 → byte a (p + i) ≡ byte b (q + i) =
+        λ i h. sym (byte-run a p 16 i h) ∙ ap (λ (l : List ℕ). byte l i) e ∙ byte-run b q 16 i h in (
+          tab-agree (λ i. byte a (p + i)) (λ i. byte b (q + i)) 8 (λ i h. each i (omega arith)),
+          tab-agree (λ i. byte a (p + 8 + i)) (λ i. byte b (q + 8 + i)) 8
+              (λ i h. ap (byte a) (omega arith) ∙ each (8 + i) (omega arith) ∙ ap (byte b) (omega arith)),
+        ),
+  )
+
+  pub same-by-halves : sameRun a p b q 16 ≡ eqb (le64 a p) (le64 b q) && eqb (le64 a (p + 8)) (le64 b (q + 8))
+  same-by-halves =
+      means-same (sameRun a p b q 16) (eqb (le64 a p) (le64 b q) && eqb (le64 a (p + 8)) (le64 b (q + 8))) (means-same-run a p b q 16) (
+        λ e. let h = both .0 e in halves-equal .0 (eight-equal p q .0 (h .0), eight-equal (p + 8) (q + 8) .0 (h .1)),
+        λ e. let h = halves-equal .1 e in both .1 (eight-equal p q .1 (h .0), eight-equal (p + 8) (q + 8) .1 (h .1)),
+      )
+    where
+      both : Means (eqb (le64 a p) (le64 b q) && eqb (le64 a (p + 8)) (le64 b (q + 8))) ((le64 a p ≡ le64 b q) × (le64 a (p + 8) ≡ le64 b (q + 8)))
+      both = means-both (means-equal (le64 a p) (le64 b q)) (means-equal (le64 a (p + 8)) (le64 b (q + 8)))
 
 module _ (s : List ℕ) (p from to : ℕ) where
   pub nonzero-least : (q : ℕ) → nonzero s p from to ≡ At q → Least (isSet s p) (λ i. p + i) from to q

@@ -16,7 +16,7 @@ use Rattle.chain.specs.laws.Loops.{one-grows}
 use Rattle.chain.specs.laws.Places.{chain-all}
 use Rattle.octets.specs.Bytes.{byte, run, little, le16, le32, le64}
 use Rattle.octets.specs.Label.{isLabelText, dollar, textEnd, afterText, badLabel}
-use Rattle.octets.specs.Runs.{six, eight, sixteen, sixAt, eightAt, sixteenAt, nonzero}
+use Rattle.octets.specs.Runs.{six, eight, sixteen, sixAt, eightAt, sixteenAt, apart, difference, isNothing, sameRun, nonzero}
 use Rattle.octets.specs.laws.Bytes.{run-part}
 use Rattle.octets.specs.laws.Label.{text-fits}
 
@@ -67,6 +67,15 @@ module _ (s t : List ℕ) (a b : ℕ) (same : Same s t a b) (p : ℕ) (start : a
   pub nonzero-same : (from to : ℕ) → p + to ≤ b → nonzero s p from to ≡ nonzero t p from to
   unfolding nonzero
   nonzero-same from to h = search-same (λ x. not (eqb x 0)) (λ i. p + i) from to h
+
+  -- two runs of one image that are compared
+  pub same-run-same : (q n : ℕ) → a ≤ q → p + n ≤ b → q + n ≤ b → sameRun s p s q n ≡ sameRun t p t q n
+  unfolding sameRun difference
+  same-run-same q n begin h k =
+      ap isNothing
+      (first-agree (λ i. when (apart s p s q i) i) (λ i. when (apart t p t q i) i) (range 0 n)
+      (chain-all (ahead 1) n one-grows (λ i. when (apart s p s q i) i ≡ when (apart t p t q i) i) 0
+      (λ i _ l. ap₂ (λ (x y : ℕ). when (not (eqb x y)) i) (same (p + i) (omega arith) (omega arith)) (same (q + i) (omega arith) (omega arith)))))
 
   text-same : p + 16 ≤ b → textEnd s p ≡ textEnd t p
   unfolding textEnd

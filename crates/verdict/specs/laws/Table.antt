@@ -2,7 +2,7 @@
 -- where the table's first broken rule is n, first broken at p, and accepted exactly where no rule is broken. A search owes this only where every rule before
 -- its own is unbroken. Assumes nothing.
 use Prim.Native.Nat.{ℕ}
-use mathlib.Core.List.{List, [], _∷_}
+use mathlib.Core.List.{List, [], _∷_, _++_}
 use mathlib.Core.Logic.{inl, inr, _↔_}
 use mathlib.Core.Path.{_≡_, refl, sym, ap, _∙_}
 use native.Mathlib.Omega.{arith}
@@ -29,6 +29,12 @@ row finds more = (refl, finds, more)
 -- a refusal is no acceptance
 refused-accepted : (n p m : ℕ) → refusal n p ≡ Accepted m → ⊥
 refused-accepted n p m e = let z : _≡_ {A = ℕ} 1 0 = ap (λ (j : Judged). elim j [ Accepted c ↦ 0 | Judged.Refused r ↦ 1 ]) e in omega arith
+
+-- where none of the first rows is broken, the first broken one is among the rest
+pub first-after : (before after : List Row) (n p : ℕ) → Unbroken before → FirstBroken (before ++ after) n p → FirstBroken after n p
+first-after [] after n p u b = b
+first-after (r ∷ rs) after n p u (inl b) = absurd (u .0 p (b .1 .0))
+first-after (r ∷ rs) after n p u (inr b) = first-after rs after n p (u .1) (b .1)
 
 module _ (m : ℕ) where
   -- ---- refused
