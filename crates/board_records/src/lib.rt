@@ -9,7 +9,7 @@ use octets::byte_at;
 use octets::first_nonzero;
 use octets::label::bad_label;
 use octets::le32_at;
-use octets::same_sixteen;
+use octets::le64_at;
 ghost use mathlib.Core.Path.{_≡_};
 ghost use Prim.Native.Nat.{_*_, _<_};
 ghost use Rattle.board_records.specs.Records.{mapNumber, badMapRecord, repeatedLabel, dataSizeFits, badGpioRecord, fieldUsed, recordFrom, recordTo};
@@ -98,15 +98,19 @@ fn bad_map_record(image: &[u8], map: u32, at: usize) -> Found
     Found::Nothing
 }
 
-// Rule 34 at the record at a place, of the map at another: its label, where an earlier record has the same.
+// Rule 34 at the record at a place, of the map at another: its label, where an earlier record has the same. Labels are compared as two numbers of eight bytes.
 fn repeated_label(image: &[u8], map: u32, at: usize) -> Found
     requires { ⌜ at < 0x4_0000_0000 ⌝ }
     ensures { λ r. ⌜ r ≡ repeatedLabel (now (image .entry)) map at ⌝ }
 {
+    let low = le64_at(image, at);
+    let high = le64_at(image, at + 8);
     let mut earlier = map as usize + 0x30;
     while earlier < at {
-        if same_sixteen(image, earlier, image, at) {
-            return Found::At(at);
+        if le64_at(image, earlier) == low {
+            if le64_at(image, earlier + 8) == high {
+                return Found::At(at);
+            }
         }
         earlier += 0x20;
     }

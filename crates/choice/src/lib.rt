@@ -5,7 +5,7 @@ use board_rules::judge;
 use kinds::Kinds;
 use octets::byte_at;
 use octets::le32_at;
-use octets::same_sixteen;
+use octets::same_run;
 use verdict::Judged;
 use verdict::Refusal;
 ghost use mathlib.Core.Path.{_≡_};
@@ -43,8 +43,8 @@ fn same_board(firmware: &[u8], p: usize, eeprom: &[u8], q: usize) -> bool
     requires { ⌜ (p ≤ 0x10_0000_0000) × (q ≤ 0x10_0000_0000) ⌝ }
     ensures { λ r. ⌜ r ≡ sameBoardAt (now (firmware .entry)) p (now (eeprom .entry)) q ⌝ }
 {
-    if same_sixteen(firmware, p + 0x10, eeprom, q + 0x10) {
-        if same_sixteen(firmware, p + 0x20, eeprom, q + 0x20) {
+    if same_run(firmware, p + 0x10, eeprom, q + 0x10, 16) {
+        if same_run(firmware, p + 0x20, eeprom, q + 0x20, 16) {
             return same_ids(firmware, p, eeprom, q);
         }
         return false;

@@ -8,7 +8,7 @@ ghost use lib.ListN.{length};
 ghost use Rattle.chain.specs.declared.Found.{Found};
 ghost use Rattle.octets.specs.Bytes.{byte, le16, le32, le64};
 ghost use Rattle.octets.specs.Put.{put};
-ghost use Rattle.octets.specs.Runs.{sixAt, eightAt, sixteenAt, sameRun, nonzero};
+ghost use Rattle.octets.specs.Runs.{sixAt, eightAt, sixteenAt, difference, sameRun, nonzero};
 
 pub mod label;
 pub mod spell;
@@ -201,24 +201,28 @@ pub fn sixteen_at(s: &[u8], at: usize) -> Sixteen
     }
 }
 
-// The little-endian number of the eight bytes that follow the first eight.
-fn le64_after(s: &[u8], at: usize) -> u64
-    ensures { λ r. ⌜ r ≡ le64 (now (s .entry)) (at + 8) ⌝ }
+// The offset of the first byte at which two runs of n bytes differ: a's from p on, and b's from q on.
+pub fn first_difference(a: &[u8], p: usize, b: &[u8], q: usize, n: usize) -> Found
+    ensures { λ r. ⌜ r ≡ difference (now (a .entry)) p (now (b .entry)) q n ⌝ }
 {
-    if at < s.len() {
-        return le64_at(s, at + 8);
+    let mut i = 0;
+    while i < n {
+        if byte_from(a, p, i) != byte_from(b, q, i) {
+            return Found::At(i);
+        }
+        i += 1;
     }
-    0
+    Found::Nothing
 }
 
-// Whether two runs of sixteen bytes are equal, as two numbers of eight bytes: a's from p on, and b's from q on.
-pub fn same_sixteen(a: &[u8], p: usize, b: &[u8], q: usize) -> bool
-    ensures { λ r. ⌜ r ≡ sameRun (now (a .entry)) p (now (b .entry)) q 16 ⌝ }
+// Whether two runs of n bytes are equal: a's from p on, and b's from q on.
+pub fn same_run(a: &[u8], p: usize, b: &[u8], q: usize, n: usize) -> bool
+    ensures { λ r. ⌜ r ≡ sameRun (now (a .entry)) p (now (b .entry)) q n ⌝ }
 {
-    if le64_at(a, p) == le64_at(b, q) {
-        return le64_after(a, p) == le64_after(b, q);
+    match first_difference(a, p, b, q, n) {
+        Found::At(_) => false,
+        Found::Nothing => true,
     }
-    false
 }
 
 // Whether a run of eight to sixteen bytes within the image is zero, in two loads: of its first eight bytes and its last eight, which may overlap.

@@ -1,5 +1,6 @@
 -- A table of rules as the paper prints it: each row has a number, and says at which places its rule is broken. Paper 01: "The lowest number that applies is
--- given; within a number, the smallest place where the rule breaks." No search is spoken of. Assumes nothing.
+-- given; within a number, the smallest place where the rule breaks." The rows stand in the order of their numbers, save where a request of paper 02 gives one
+-- another rank. No search is spoken of. Assumes nothing.
 use Prim.Native.Nat.{ℕ}
 use mathlib.Core.List.{List, [], _∷_}
 use mathlib.Core.Logic.{_⊎_}
