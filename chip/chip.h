@@ -31,7 +31,8 @@
 extern "C" {
 #endif
 
-/* The version of this header; chip_version() is that of the library in a program. */
+/* The version of this header; chip_version() is that of the library in a program. MINOR grows where
+   an answer changes or something is added, MAJOR where a program has to be written anew. */
 #define CHIP_VERSION_MAJOR 1
 #define CHIP_VERSION_MINOR 1
 #define CHIP_VERSION_PATCH 0
