@@ -1,6 +1,6 @@
 //! A reader of tiny (001, Kontron) and board (000, Intel) EEPROM images, written from the papers
-//! alone. "Rule n" is refusal number n of the build paper, 01-scope.md, or for n = 34 of R-2 in
-//! 02-change-requests.md; rows are those of 000.
+//! alone. "Rule n" is refusal number n of the build paper, 01-scope.md, and rule 34 that of request
+//! R-2 in 02-change-requests.md; rows are those of 000.
 
 use std::hint::black_box;
 use std::mem::MaybeUninit;
@@ -20,8 +20,7 @@ fn hold(number: u8, place: usize, broken: Option<usize>) -> Judged<()> {
     broken.map_or(Ok(()), |i| Err(refusal(number, place + i)))
 }
 
-/// The refusal to give of those met so far: the lowest number, within it the smallest place. Not for
-/// rule 34, whose rank is not that of its number.
+/// The refusal to give of those met so far: the lowest number, within it the smallest place.
 struct Least(Judged<()>);
 
 impl Least {
@@ -595,7 +594,7 @@ pub fn judge_board(image: &[u8], kinds: u32) -> Judged<Board<'_>> {
     hold(28, info.place, (info.end() > 4096).then_some(0))?;
     hold(29, last.place, prom_sig.and_then(|prom_sig| hash_break(prom_sig.bytes)))?;
     hold(30, map.place, map_break(map.bytes, area.len()))?;
-    hold(34, map.place, repeated_label(&map))?;
+    hold(34, map.place, map_labels_break(&map))?;
     hold(31, info.place, info.bytes.get(0x4C).filter(|&&kind| kind > 1).map(|_| 0x4C))?;
     board_contents(area, kinds)?;
     Ok(Board { area, kinds, count, info: info.bytes })
@@ -701,14 +700,12 @@ fn map_record_break(record: &[u8; 0x20], offset: u64) -> Option<usize> {
         .or((record[0x18] > 0x7F).then_some(0x18))
 }
 
-/// Rule 34, between 30 and 31: the first record with the sixteen label bytes of an earlier one.
-fn repeated_label(map: &Structure) -> Option<usize> {
-    let records = map.records::<0x20>();
-    let mut numbered = records.iter().enumerate();
-    let k = numbered.position(|(k, record)| {
-        records[..k].iter().any(|earlier| earlier[..0x10] == record[..0x10])
-    })?;
-    Some(0x30 + 0x20 * k)
+/// Rule 34, which comes between 30 and 31: the first record that has the label of an earlier one.
+fn map_labels_break(map: &Structure) -> Option<usize> {
+    let labels = map.records::<0x20>().iter().map(|record| &record[..16]);
+    let mut numbered = labels.clone().enumerate();
+    let repeated = numbered.find(|&(k, label)| labels.clone().take(k).any(|earlier| earlier == label));
+    repeated.map(|(k, _)| 0x30 + 0x20 * k)
 }
 
 /// Rules 32 and 33, of known structures. A VerMinor above 0 lifts rule 32 only.
@@ -942,7 +939,6 @@ mod tests {
     }
 
     /// A good image of version 4, its PartSize 20000h at least, sealed over `covered` bytes or whole.
-    /// Record k has the label "sixteen char k" with k as three digits.
     fn board(records: u32, further: &[Vec<u8>], covered: Option<usize>) -> Vec<u8> {
         let mut map = structure(b"$EeprMap", 0x30 + 0x20 * records);
         let block = 0x20000u32;
@@ -951,7 +947,7 @@ mod tests {
         put(&mut map, 0x26, &(records * block).to_le_bytes());
         for k in 0..records {
             let at = 0x30 + 0x20 * k as usize;
-            put(&mut map, at, format!("sixteen char {k:03}").as_bytes());
+            put(&mut map, at, format!("block number {k:03}").as_bytes());
             map[at + 0x10] = 0x20;
             put(&mut map, at + 0x14, &(k * block).to_le_bytes());
         }
@@ -1184,58 +1180,97 @@ mod tests {
         }
     }
 
-    /// Five records with labels at 60h, 80h, A0h, C0h and E0h; board at 100h, GPIO at 160h with two
-    /// records of one label, that of the first map record.
+    /// An image with a map of these labels: its first record at 60h, after the last one the board.
+    fn labelled(labels: &[&[u8]], further: &[Vec<u8>]) -> Vec<u8> {
+        let mut image = board(labels.len() as u32, further, None);
+        for (k, label) in labels.iter().enumerate() {
+            put(&mut image, 0x60 + 0x20 * k, &[0; 16]);
+            put(&mut image, 0x60 + 0x20 * k, label);
+        }
+        let covered = image.len();
+        seal(image, covered)
+    }
+
     #[test]
-    fn repeated_labels() {
-        let says = |labels: [&[u8]; 5], changes: &[(usize, u8)]| {
-            let mut gpio = structure(b"$GpioDat", 0x80);
-            for at in [0x20, 0x50] {
-                put(&mut gpio, at, labels[0]);
-                (gpio[at + 0x10], gpio[at + 0x20]) = (0x30, 1);
-            }
-            let mut image = board(5, &[gpio], None);
-            for (k, label) in labels.into_iter().enumerate() {
-                image[0x60 + 0x20 * k..0x70 + 0x20 * k].fill(0);
-                put(&mut image, 0x60 + 0x20 * k, label);
-            }
-            for &(at, byte) in changes {
-                image[at] = byte;
-            }
-            let image = seal(image, 0x1E0);
-            let full = board_says(&image, FULL);
-            let others = [list_says(1, &image, FULL, 0).0, split(choice_says(&image, &[]))];
-            assert!(full.0 == 0 || others == [full, full]);
-            (full, board_says(&image, 0))
-        };
-        let [a, b, c, d]: [&[u8]; 4] = [b"top1$", b"top2$", b"Top1$", b"top1 $"];
-        let [e, f]: [&[u8]; 2] = [b"sixteen letters!", b"sixteen letters?"];
-        let both = |number, place| ((number, place), (number, place));
-        for (labels, verdict) in [
-            ([a, b, c, d, b"$"], both(0, 4)),
-            ([e, f, b"sixteen letters$", a, b"top$"], both(0, 4)),
-            ([a, a, b, c, d], both(34, 0x80)),
-            ([a, b, c, d, a], both(34, 0xE0)),
-            ([b, a, c, a, a], both(34, 0xC0)),
-            ([a, b, b, c, a], both(34, 0xA0)),
-            ([a, b"$", b, b"$", c], both(34, 0xC0)),
-            ([e, f, a, f, e], both(34, 0xC0)),
+    fn equal_labels() {
+        for (labels, says) in [
+            ([&b"a$"[..], b"b$", b"c$", b"d$"], (0, 3)),
+            ([b"a$", b"a$", b"c$", b"d$"], (34, 0x80)),
+            ([b"a$", b"b$", b"c$", b"a$"], (34, 0xC0)),
+            ([b"a$", b"b$", b"b$", b"a$"], (34, 0xA0)),
+            ([b"a$", b"b$", b"a$", b"b$"], (34, 0xA0)),
+            ([b"a$", b"a$", b"a$", b"a$"], (34, 0x80)),
+            ([b"a$", b"A$", b"a $", b"aa$"], (0, 3)),
+            ([b"$", b"b$", b"c$", b"d$"], (0, 3)),
+            ([b"$", b"b$", b"$", b"d$"], (34, 0xA0)),
+            ([b"sixteen letters!", b"sixteen letters?", b"Sixteen letters!", b"sixteen letter$"], (0, 3)),
+            ([b"sixteen letters!", b"b$", b"c$", b"sixteen letters!"], (34, 0xC0)),
+            ([b"a", b"a", b"c$", b"d$"], (30, 0x61)),
         ] {
-            assert_eq!(says(labels, &[]), verdict, "{labels:?}");
+            let image = labelled(&labels, &[]);
+            for kinds in [FULL, 0, 1 << 10, !0] {
+                assert_eq!(board_says(&image, kinds), says, "{labels:x?}");
+            }
         }
-        for (change, alone, repeated) in [
-            ((0x5C, 4), (30, 0x5C), both(30, 0x5C)),
-            ((0xF8, 0x80), (30, 0xF8), both(30, 0xF8)),
-            ((0x14C, 2), (31, 0x14C), both(34, 0x80)),
-            ((0x2F, 1), (32, 0x2F), both(34, 0x80)),
-            ((0x181, 0), (33, 0x181), both(34, 0x80)),
-            ((0x3A, 1), (0, 4), both(34, 0x80)),
+        let numbers: Vec<Vec<u8>> = (0..121).map(|k| format!("{k}$").into()).collect();
+        let mut labels: Vec<&[u8]> = numbers.iter().map(|label| &label[..]).collect();
+        labels.push(b"0$");
+        assert_eq!(board_says(&labelled(&labels, &[]), FULL), (34, 0xF80));
+        labels.push(b"0$");
+        assert_eq!(board_says(&labelled(&labels, &[]), FULL), (28, 0xFC0));
+    }
+
+    /// Labels outside the map's records may equal each other and those of records.
+    #[test]
+    fn equal_labels_elsewhere() {
+        let mut gpio = structure(b"$GpioDat", 0x80);
+        for at in [0x20, 0x50] {
+            put(&mut gpio, at, b"a$");
+            (gpio[at + 0x10], gpio[at + 0x20]) = (0x30, 1);
+        }
+        let mut image = labelled(&[b"a$", b"b$"], &[gpio]);
+        put(&mut image, 0x40, b"a$");
+        assert_eq!(board_says(&seal(image, 0x180), FULL), (0, 4));
+    }
+
+    /// Two equal labels, the second at 80h, the board at A0h and `$PromSig` at 100h, and one more
+    /// break.
+    #[test]
+    fn equal_labels_in_order() {
+        let image = labelled(&[b"a$", b"a$"], &[structure(b"$PromSig", 0x20)]);
+        for (at, byte, says) in [
+            (0x0C, 0x20, (21, 0)),
+            (0x38, 2, (26, 0x30)),
+            (0x18, 0, (27, 0x18)),
+            (0x110, 6, (29, 0x110)),
+            (0x98, 0x80, (30, 0x98)),
+            (0x3A, 1, (34, 0x80)),
+            (0x98, 0x7F, (34, 0x80)),
+            (0xEC, 2, (34, 0x80)),
+            (0x2F, 1, (34, 0x80)),
+            (0x99, 1, (34, 0x80)),
         ] {
-            assert_eq!(says([a, e, b, c, d], &[change]).0, alone, "{change:x?}");
-            assert_eq!(says([a, a, b, c, d], &[change]), repeated, "{change:x?}");
+            let mut image = image.clone();
+            image[at] = byte;
+            assert_eq!(board_says(&seal(image, 0x120), FULL), says, "{at:x} {byte:x}");
         }
-        let part_label = [(0x40, b't'), (0x41, b'o'), (0x42, b'p'), (0x43, b'1'), (0x44, b'$')];
-        assert_eq!(says([a, b, c, d, b"$"], &part_label), both(0, 4));
+        let mut further = structure(b"$FPGAnfo", 0x20);
+        further[0x10] = 5;
+        assert_eq!(board_says(&labelled(&[b"a$", b"a$"], &[further]), FULL), (34, 0x80));
+    }
+
+    #[test]
+    fn equal_labels_in_every_call() {
+        let (good, bad) = (labelled(&[b"a$", b"b$"], &[]), labelled(&[b"a$", b"a$"], &[]));
+        let left = [7, 7, 7, 1];
+        for room in [0, 2, 3] {
+            assert_eq!(list_says(1, &bad, 0, room), ((34, 0x80), vec![left; room]));
+        }
+        let walk = unsafe { independent_walk(1, bad.as_ptr(), bad.len(), FULL) };
+        assert_eq!(split(walk), (34, 0x80));
+        assert_eq!((choice_says(&bad, &good), choice_says(&good, &bad)), (1 << 40 | 0x100, 0x100));
+        assert_eq!((choice_says(&bad, &[]), choice_says(&[], &bad)), (34 << 32 | 0x80, 20 << 32));
+        assert_eq!(choice_says(&good, &good), 0x100);
     }
 
     /// A structure at E0h with every byte past its head FFh, by every listed signature.

@@ -167,14 +167,14 @@ fields-hold : map (λ (r : Row). judged full (r .image)) fields ≡ map (λ (r :
 unfolding judged rule20 rule21 rule22 rule23 rule24 rule25 rule26 rule27 rule28 rule29 rule30 rule31 rule32 rule33 rule34 misplaced gapUsed expected outOfOrder promSigAt covered checkOver badMapHead badBoardHead badPromSigHead badHash badHashOf hashSize badMap badMapField badMapRecord repeatedLabel badBoardType reservedUsed badInside shapeAt shapeOf listedShape endAt round16 next mapAt boardAt laterAt records visit chain first tab le16 le32 le64 nonzero isText isLabelText textEnd badLabel all crc32 shift shifts step32
 fields-hold = refl
 
--- ---- rule 34: two records with labels of four characters, and '$' and zeros; this Speed and BoardType
+-- ---- rule 34: a map of this VerMinor and Speed, with two records whose labels are four characters, '$' and zeros; a board of this BoardType
 abbrev recordAt : ℕ → List ℕ → List ℕ
 recordAt offset text = text ++ (0x24 ∷ zeros 11) ++ four 0x20 ++ four offset ++ (0x50 ∷ zeros 7)
 
-abbrev two : ℕ → List ℕ → List ℕ → ℕ → ℕ → List ℕ
-two check text other speed type =
+abbrev two : ℕ → ℕ → List ℕ → List ℕ → ℕ → ℕ → List ℕ
+two check minor text other speed type =
     header 0x100 check 0x100
-    ++ head (0x24 ∷ 0x45 ∷ 0x65 ∷ 0x70 ∷ 0x72 ∷ 0x4D ∷ 0x61 ∷ 0x70 ∷ []) 0x70
+    ++ (0x24 ∷ 0x45 ∷ 0x65 ∷ 0x70 ∷ 0x72 ∷ 0x4D ∷ 0x61 ∷ 0x70 ∷ 1 ∷ 0 ∷ minor ∷ 0 ∷ four 0x70)
     ++ (0x72 ∷ 0x69 ∷ 0x67 ∷ 0x24 ∷ zeros 12) ++ four 4096 ++ (32 ∷ 0 ∷ []) ++ four 8192 ++ (0 ∷ 1 ∷ speed ∷ zeros 3)
     ++ recordAt 0 text ++ recordAt 4096 other
     ++ brdInfo 0x60 type
@@ -188,19 +188,19 @@ top2 = 0x74 ∷ 0x6F ∷ 0x70 ∷ 0x32 ∷ []
 
 abbrev labels : List Row
 labels =
-    row (two 0x5E808744 top1 top2 2 0) (Accepted 3)
+    row (two 0x5E808744 0 top1 top2 2 0) (Accepted 3)
     -- 34 "comes after 30": Speed 4
-    ∷ row (two 0x50BD608C top1 top1 4 0) (refusal 30 0x5C)
+    ∷ row (two 0x50BD608C 0 top1 top1 4 0) (refusal 30 0x5C)
     -- "and before 31": BoardType 2
-    ∷ row (two 0xCF0C54DA top1 top1 2 2) (refusal 34 0x80)
+    ∷ row (two 0xCF0C54DA 0 top1 top1 2 2) (refusal 34 0x80)
     ∷ []
 
 labels-hold : map (λ (r : Row). judged full (r .image)) labels ≡ map (λ (r : Row). r .answer) labels
 unfolding judged rule20 rule21 rule22 rule23 rule24 rule25 rule26 rule27 rule28 rule29 rule30 rule31 rule32 rule33 rule34 misplaced gapUsed expected outOfOrder promSigAt covered checkOver badMapHead badBoardHead badPromSigHead badHash badHashOf hashSize badMap badMapField badMapRecord repeatedLabel badBoardType reservedUsed badInside shapeAt shapeOf listedShape endAt round16 next mapAt boardAt laterAt records visit chain first tab le16 le32 le64 nonzero difference sameRun isText isLabelText textEnd badLabel all crc32 shift shifts step32
 labels-hold = refl
 
--- "refused by every reader": also by the one with the bare list
-bare-refuses : judged bare (two 0x05C22256 top1 top1 2 0) ≡ refusal 34 0x80
+-- "refused by every reader": also by the one with the bare list; and under a VerMinor above 0, which "lifts only rule 32"
+bare-refuses : judged bare (two 0x8BC5CC8C 1 top1 top1 2 0) ≡ refusal 34 0x80
 unfolding judged rule20 rule21 rule22 rule23 rule24 rule25 rule26 rule27 rule28 rule29 rule30 rule31 rule32 rule33 rule34 misplaced gapUsed expected outOfOrder promSigAt covered checkOver badMapHead badBoardHead badPromSigHead badHash badHashOf hashSize badMap badMapField badMapRecord repeatedLabel badBoardType reservedUsed badInside shapeAt shapeOf listedShape endAt round16 next mapAt boardAt laterAt records visit chain first tab le16 le32 le64 nonzero difference sameRun isText isLabelText textEnd badLabel all crc32 shift shifts step32
 bare-refuses = refl
 

@@ -26,6 +26,13 @@ Same s t a b = (q : ℕ) → a ≤ q → q < b → byte s q ≡ byte t q
 pub same-part : (s t : List ℕ) (a b c d : ℕ) → a ≤ c → d ≤ b → Same s t a b → Same s t c d
 same-part s t a b c d h k same = λ q i j. same q (omega arith) (omega arith)
 
+-- two tests that agree at each offset find the same: the first of the offsets from `from` up to `to`, each with its place
+tests-same : (f g : ℕ → Bool) (place : ℕ → ℕ) (from to : ℕ) → ((i : ℕ) → i < to → f i ≡ g i)
+    → first (λ i. when (f i) (place i)) (range from to) ≡ first (λ i. when (g i) (place i)) (range from to)
+tests-same f g place from to agree =
+    first-agree (λ i. when (f i) (place i)) (λ i. when (g i) (place i)) (range from to)
+    (chain-all (ahead 1) to one-grows (λ i. when (f i) (place i) ≡ when (g i) (place i)) from (λ i _ k. ap (λ (x : Bool). when x (place i)) (agree i k)))
+
 module _ (s t : List ℕ) (a b : ℕ) (same : Same s t a b) (p : ℕ) (start : a ≤ p) where
   pub byte-same : p + 1 ≤ b → byte s p ≡ byte t p
   byte-same h = same p start (omega arith)
@@ -57,12 +64,10 @@ module _ (s t : List ℕ) (a b : ℕ) (same : Same s t a b) (p : ℕ) (start : a
   unfolding sixteenAt
   sixteen-same h = ap sixteen (run-same 16 h)
 
-  -- ---- a search by a test of each byte finds the same: the first of the offsets from `from` up to `to`, each with its place
+  -- ---- a search by a test of each byte finds the same
   pub search-same : (test : ℕ → Bool) (place : ℕ → ℕ) (from to : ℕ) → p + to ≤ b → first (λ i. when (test (byte s (p + i))) (place i)) (range from to) ≡ first (λ i. when (test (byte t (p + i))) (place i)) (range from to)
   search-same test place from to h =
-      first-agree (λ i. when (test (byte s (p + i))) (place i)) (λ i. when (test (byte t (p + i))) (place i)) (range from to)
-      (chain-all (ahead 1) to one-grows (λ i. when (test (byte s (p + i))) (place i) ≡ when (test (byte t (p + i))) (place i)) from
-      (λ i _ k. ap (λ (x : ℕ). when (test x) (place i)) (same (p + i) (omega arith) (omega arith))))
+      tests-same (λ i. test (byte s (p + i))) (λ i. test (byte t (p + i))) place from to (λ i k. ap test (same (p + i) (omega arith) (omega arith)))
 
   pub nonzero-same : (from to : ℕ) → p + to ≤ b → nonzero s p from to ≡ nonzero t p from to
   unfolding nonzero
@@ -73,9 +78,8 @@ module _ (s t : List ℕ) (a b : ℕ) (same : Same s t a b) (p : ℕ) (start : a
   unfolding sameRun difference
   same-run-same q n begin h k =
       ap isNothing
-      (first-agree (λ i. when (apart s p s q i) i) (λ i. when (apart t p t q i) i) (range 0 n)
-      (chain-all (ahead 1) n one-grows (λ i. when (apart s p s q i) i ≡ when (apart t p t q i) i) 0
-      (λ i _ l. ap₂ (λ (x y : ℕ). when (not (eqb x y)) i) (same (p + i) (omega arith) (omega arith)) (same (q + i) (omega arith) (omega arith)))))
+      (tests-same (apart s p s q) (apart t p t q) (λ i. i) 0 n
+      (λ i l. ap₂ (λ (x y : ℕ). not (eqb x y)) (same (p + i) (omega arith) (omega arith)) (same (q + i) (omega arith) (omega arith))))
 
   text-same : p + 16 ≤ b → textEnd s p ≡ textEnd t p
   unfolding textEnd
