@@ -34,10 +34,10 @@ extern "C" {
 /* The version of this header; chip_version() is that of the library in a program. MINOR grows where
    an answer changes or something is added, MAJOR where a program has to be written anew. */
 #define CHIP_VERSION_MAJOR 1
-#define CHIP_VERSION_MINOR 1
+#define CHIP_VERSION_MINOR 2
 #define CHIP_VERSION_PATCH 0
 #define CHIP_VERSION (CHIP_VERSION_MAJOR * 10000 + CHIP_VERSION_MINOR * 100 + CHIP_VERSION_PATCH)
-#define CHIP_VERSION_TEXT "1.1.0"
+#define CHIP_VERSION_TEXT "1.2.0"
 
 /* The compiler warns where an answer is thrown away. */
 #if defined(__cplusplus) && __cplusplus >= 201703L
@@ -225,11 +225,11 @@ CHIP_MUST_USE static inline const char *chip_refusal_text(unsigned number) {
         return "a major, minor, pair of characters or batch is out of range";
     /* board images */
     case CHIP_BOARD_SIZE: /* at 0 */
-        return "fewer than 48 bytes, or more than 65536";
+        return "fewer than 32 bytes, or more than 65536";
     case CHIP_BOARD_HEADER: /* at 0 */
         return "the header has another signature, VerMajor or Length";
     case CHIP_BOARD_STRUCTLEN: /* at 16 */
-        return "StructLen is below 48 or above the number of bytes";
+        return "StructLen is below the header's Length or above the number of bytes";
     case CHIP_BOARD_STRUCTURE: /* at its start */
         return "no structure where one is due";
     case CHIP_BOARD_PADDING: /* at the byte */

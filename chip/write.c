@@ -51,7 +51,7 @@ static enum status tell_writer(const struct request *request, enum format typed,
         return USAGE;
     }
     enum format format = typed != NOT_SAID                    ? typed
-                         : semicolons == 5                    ? BOARD
+                         : semicolons == 6                    ? BOARD
                          : semicolons == 1 || semicolons == 2 ? TINY
                                                               : NOT_SAID;
     *program = format == TINY ? "tiny_write" : "board_write";
@@ -59,7 +59,7 @@ static enum status tell_writer(const struct request *request, enum format typed,
         return too_long(request, LONGEST_TINY_REQUEST);
     if (format != NOT_SAID)
         return DONE;
-    complain("%s: no request: a tiny image's has one or two semicolons, a board image's five",
+    complain("%s: no request: a tiny image's has one or two semicolons, a board image's six",
              request->path);
     return USAGE;
 }

@@ -4,7 +4,7 @@
 `images(seed)` gives them for ever, each as (group, image, answer): the image has at most 65,537 bytes, most have fewer than 1,500, and
 the answer is what the judge with the full list must say by the way the image was made ("accepted COUNT", "refused NUMBER PLACE", or "?"
 where the maker does not know). The same seed gives the same images. They come from groups taken in turn (GROUPS at the end). A group
-walks round its list of variants, and puts each into fresh random surroundings.
+walks round its list of variants, and puts each into fresh random surroundings, with the short or the long header.
 
     board_images.py records >crates/board_answers/stdin    cases 12 and 13, what is beside them, images of every group, several lists
     board_images.py case13 >crates/board_list/stdin        case 13
@@ -21,13 +21,17 @@ from tiny_images import cycle, refused
 
 FULL = 0x1FFFF
 LONGEST = 65536
+SHORT, LONG = HEADERS = 0x20, 0x30  # the Lengths that $Eeprom$ may have: without its Reserved field, and with it
+# Lengths that it may not have; some have the low bytes of one that it may
+NO_HEADER = (0, 0x10, 0x1F, 0x21, 0x2F, 0x31, 0x40, 0x120, 0x130, 0x2000, 0x3000, 0x10020, 0x10030, 0x1000020, 0x1000030, 0x80000020,
+             0xFFFFFFFF)
 EEPROM, MAP, BOARD, PROMSIG = b"$Eeprom$", b"$EeprMap", b"$BrdInfo", b"$PromSig"
 ACPI, FPGA, GPIO, CODEC, LOGO = b"$AcpiTbl", b"$FPGAnfo", b"$GpioDat", b"$HdCodec", b"$Logo$\0\0"
 MEMORY, NIC, UCODE, VIDEO = b"$MemCnfg", b"$MacInfo", b"$uCode$\0", b"$Video$\0"
 LISTED = (ACPI, FPGA, GPIO, CODEC, LOGO, MEMORY, NIC, UCODE, VIDEO)  # from bit 8 of a list on
 ALWAYS = (EEPROM, MAP, BOARD, PROMSIG)
-# where the reserved bytes of a structure start, and where they and the fixed part end
-RESERVED = {EEPROM: (0x20, 0x30), MAP: (0x2D, 0x30), BOARD: (0x4D, 0x60), PROMSIG: (0x12, 0x20), FPGA: (0x13, 0x20), MEMORY: (0x12, 0x20),
+# where the reserved bytes of a structure start, and where they and the fixed part end; a short header ends before its own
+RESERVED = {EEPROM: (SHORT, LONG), MAP: (0x2D, 0x30), BOARD: (0x4D, 0x60), PROMSIG: (0x12, 0x20), FPGA: (0x13, 0x20), MEMORY: (0x12, 0x20),
             NIC: (0x20, 0x30), **{kind: (0x10, 0x20) for kind in (ACPI, GPIO, CODEC, LOGO, UCODE, VIDEO)}}
 RECORD = {MAP: (0x20, 0x19), GPIO: (0x30, 0x22)}  # the size of a record, and where its reserved bytes start
 HASHES = {0: 0x00, 1: 0x10, 2: 0x14, 3: 0x20, 4: 0x30, 5: 0x40}
@@ -54,7 +58,7 @@ def structure(signature, body, major=1, minor=0, length=None):
 
 
 def header(version, minor=0, reserved=bytes(16)):
-    """StructLen and the check fields are filled in by Board."""
+    """The short header has no reserved bytes. StructLen and the check fields are filled in by Board."""
     return structure(EEPROM, bytes(12) + le(version, 4) + reserved, minor=minor)
 
 
@@ -103,9 +107,17 @@ class Board:
     def last(self):
         return len(self.parts) - 1
 
+    def header(self):
+        """The header's Length, which is the place of the map."""
+        return len(self.parts[0])
+
     def end(self):
         """StructLen."""
         return self.at(self.last()) + len(self.parts[-1])
+
+    def ends(self):
+        """Where each structure ends."""
+        return [self.at(k) + len(part) for k, part in enumerate(self.parts)]
 
     def records(self):
         return (len(self.parts[1]) - 0x30) // 0x20
@@ -161,6 +173,17 @@ def with_crc(image, crc):
 
 def good(board):
     return "accepted %d" % len(board.parts)
+
+
+def cut_to(board, length, lent):
+    """What is due of a good board whose StructLen is another, not past its end, with at least 20h bytes lent; None if it ends behind a
+    structure that may be the last."""
+    whole = sum(end <= length for end in board.ends())
+    if length < board.header() or length > lent:
+        return refused(22, 0x10)
+    if length not in board.ends():
+        return refused(23, board.at(whole))
+    return refused(25, length) if whole < 3 else None
 
 
 # ---- good parts of any content ----
@@ -220,9 +243,10 @@ def some_name(rnd, size=16):
     return front.ljust(size, rnd.choice([b"\0", b"\0", b" "]))
 
 
-def some_header(rnd):
-    minor = some_minor(rnd)
-    return header(some_number(rnd, 4), minor, unused(rnd, minor, 16))
+def some_header(rnd, length=None):
+    """Of either Length unless one is given."""
+    minor, length = some_minor(rnd), length or rnd.choice(HEADERS)
+    return header(some_number(rnd, 4), minor, unused(rnd, minor, length - SHORT))
 
 
 def some_map(rnd, n=None):
@@ -309,9 +333,10 @@ def some_others(rnd, most=3, signed=0.25):
     return out + ([some_promsig(rnd)] if rnd.random() < signed else [])
 
 
-def some(rnd, others=None, records=None):
-    """A good board, of any content save what is given."""
-    board = Board([some_header(rnd), some_map(rnd, records), some_board(rnd)] + (some_others(rnd) if others is None else list(others)))
+def some(rnd, others=None, records=None, header=None):
+    """A good board, of any content save what is given; with a short or a long header unless its Length is given."""
+    front = [some_header(rnd, header), some_map(rnd, records), some_board(rnd)]
+    board = Board(front + (some_others(rnd) if others is None else list(others)))
     least, n = -(-board.end() // board.records()), board.records()
     board.fit(rnd.choice([least, least, least + 1, max(least, 4096), 0xFFFFFFFF // n, rnd.randint(least, 0xFFFFFFFF // n)]))
     return board
@@ -378,7 +403,7 @@ def spots(board, rule):
         if rule == 31 and kind == BOARD:
             out.append((at + 0x4C, at + 0x4C, b"\x02"))
         if rule == 32 and known and part[10:12] == bytes(2):
-            places = list(range(at + RESERVED[kind][0], at + RESERVED[kind][1]))
+            places = list(range(at + RESERVED[kind][0], at + min(RESERVED[kind][1], len(part))))
             places += [p for r in records for p in range(r + start, r + size)]
             out += [(p, p, b"\x80") for p in places]
         if rule == 33 and known and kind == FPGA:
@@ -481,22 +506,27 @@ def good_names(rnd):
 
 
 def rule_20(rnd):
-    """Under 30h bytes, and just 30h, which is the header alone or the front of more."""
-    for n in cycle(rnd, list(range(0x30)) + ["header"] * 4 + ["front"] * 4):
-        board = some(rnd)
-        image = board.image()
-        if n == "header":
-            yield image[:0x10] + le(0x30, 4) + image[0x14:0x30], refused(25, 0x30)
-        elif n == "front":
-            yield image[:0x30], refused(22, 0x10)
+    """Under 20h bytes, whatever they are. From 20h to 30h the front of a board, which is no whole header if that is the long one: as it is,
+    with a Length that no header has, and with another StructLen. A header alone."""
+    variants = [("few", n, None) for n in range(SHORT)] + [("alone", h, h) for h in HEADERS] * 3
+    variants += [(part, n, h) for part in ("front", "Length", "StructLen") for n in range(SHORT, LONG + 1) for h in HEADERS]
+    for part, n, h in cycle(rnd, variants):
+        board = some(rnd, header=h)
+        if part == "few":
+            yield rnd.choice([board.image()[:n], rnd.randbytes(n)]), refused(20, 0)
+        elif part == "front":
+            yield board.image()[:n], refused(22, 0x10)
+        elif part == "Length":
+            yield board.image((12, le(rnd.choice(NO_HEADER), 4)))[:n], refused(21, 0)
         else:
-            yield rnd.choice([image[:n], rnd.randbytes(n)]), refused(20, 0)
+            v = h if part == "alone" else rnd.choice([0, SHORT - 1, SHORT, SHORT + 1, LONG - 1, LONG, LONG + 1, n - 1, n, n, n + 1])
+            yield board.image((0x10, le(v, 4)))[:n], cut_to(board, v, n)
 
 
 def rule_21(rnd):
+    """Each byte of the signature, other versions, and Lengths: with that of the other header there is no structure where one is due."""
     variants = [("signature", i) for i in range(8)] + [("major", v) for v in (0, 2, 256, 257, 65535)]
-    variants += [("length", v) for v in (0, 0x10, 0x20, 0x2F, 0x31, 0x40, 0x130, 0x10030, 0x1000030, 0xFFFFFFFF)]
-    variants += [("minor", v) for v in (1, 256, 65535)]
+    variants += [("length", v) for v in HEADERS * 2 + NO_HEADER] + [("minor", v) for v in (1, 256, 65535)]
     for part, v in cycle(rnd, variants):
         board = some(rnd)
         if part == "signature":
@@ -505,23 +535,85 @@ def rule_21(rnd):
         else:
             place, size = {"major": (8, 2), "minor": (10, 2), "length": (12, 4)}[part]
             change = (place, le(v, size))
-        yield lend(rnd, board.image(change)), good(board) if part == "minor" else refused(21, 0)
+        said = good(board) if part == "minor" else refused(21, 0)
+        if part == "length" and v in HEADERS:
+            said = good(board) if v == board.header() else refused(23, v)
+        yield lend(rnd, board.image(change)), said
 
 
 def rule_22(rnd):
-    variants = [("value", v) for v in (0, 1, 0x10, 0x20, 0x2E, 0x2F, 0x30, 0x80000000, 0xFFFFFFFF, 0x1000000)]
+    """StructLen on both sides of each header's Length, whichever the board has, and of what is lent."""
+    values = (0, 1, 0x10, 0x1F, 0x20, 0x21, 0x2E, 0x2F, 0x30, 0x31, 0x3F, 0x40, 0x1000000, 0x80000000, 0xFFFFFFFF)
+    variants = [(h, v) for h in HEADERS for v in values]
     variants += [("lent", d) for d in (0, 0, 0, 1, 1, 1, 2, 16, 256, 65536)] + [("cut", d) for d in (1, 1, 16, 0)]
     for part, v in cycle(rnd, variants):
-        board = some(rnd)
-        if part == "value":
-            yield lend(rnd, board.image((0x10, le(v, 4)))), refused(22, 0x10) if v != 0x30 else refused(25, 0x30)
+        board = some(rnd, header=part if part in HEADERS else None)
+        if part in HEADERS:
+            image = lend(rnd, board.image((0x10, le(v, 4))))
+            yield image, cut_to(board, v, len(image))
         elif part == "lent":
             image = board.image() if v == 0 else lend(rnd, board.image())
             if v:
                 image = image[:0x10] + le(len(image) + v, 4) + image[0x14:]
             yield image, refused(22, 0x10) if v else good(board)
         else:
-            yield board.image()[:-v or rnd.randint(0x30, board.end() - 1)], refused(22, 0x10)
+            yield board.image()[:-v or rnd.randint(SHORT, board.end() - 1)], refused(22, 0x10)
+
+
+def damaged_header(rnd):
+    """Each byte of either header changed, with Crc32 of what that leaves or with Crc32 as it was."""
+    for h, p, right in cycle(rnd, [(h, p, right) for h in HEADERS for p in range(h) for right in (True, False)]):
+        board = some(rnd, header=h)
+        image = board.image()
+        value = bytes([image[p] ^ rnd.choice([1 << rnd.randrange(8), rnd.randint(1, 255)])])
+        right = right and not 0x14 <= p < 0x18
+        image = board.image((p, value)) if right else image[:p] + value + image[p + 1:]
+        minor, length, end = (int.from_bytes(image[a:b], "little") for a, b in ((10, 12), (12, 16), (16, 20)))
+        if p < 10 or length not in HEADERS:
+            said = refused(21, 0)
+        elif length != h:
+            said = refused(23, length)
+        elif end != board.end():
+            said = cut_to(board, end, len(image)) or refused(27, 0x14)
+        elif not right:
+            said = refused(27, 0x14)
+        elif 0x18 <= p < 0x1C:
+            said = refused(27, 0x18)
+        else:
+            reserved = [place for place in range(SHORT, h) if image[place] and not minor]
+            said = refused(32, reserved[0]) if reserved else good(board)
+        yield image, said
+
+
+def other_length(rnd):
+    """Each header with the Length of the other, Crc32 made right. Where the next structure is then due lie the reserved bytes of the long
+    header, or PartLabel of the map behind the short one: as they may be, or the head of a structure. The same with its own Length."""
+    variants = [(h, k, own) for h, count in ((LONG, 8), (SHORT, 4)) for k in range(count) for own in (False, False, True)]
+    for h, k, own in cycle(rnd, variants):
+        board, nonzero, minor = some(rnd, header=h), bytes(rnd.randint(1, 255) for _ in range(15)), rnd.choice([0, 0, 1, 256])
+        due = sum(HEADERS) - h
+        over, none = board.at(2) - due, refused(23, due)  # as long as up to the board; no structure where one is due
+        if h == LONG:
+            data, said = ((bytes(16), none), (b"\xff" + nonzero, none), (b"$" + nonzero, none),
+                          (structure(b"$Fan", b""), refused(25, due)), (structure(BOARD, b""), refused(25, due)),
+                          (structure(MAP, b""), refused(25, LONG)), (structure(MAP, b"", length=over), refused(26, due)),
+                          (structure(MAP, b"", length=board.end() - due), refused(25, board.end())))[k]
+            board.parts[0][10:12] = le(minor, 2)
+            as_it_is = good(board) if minor or not any(data) else refused(32, due)
+        else:
+            data, said = ((board.parts[1][0x10:0x20], none), (labelled(b""), none),
+                          (structure(b"$Fan", b"", length=over), refused(25, due)), (structure(MAP, b"", length=over), refused(26, due)))[k]
+            as_it_is = good(board) if k < 2 else refused(30, due + 1)
+        yield lend(rnd, board.image((due, data), (12, le(h if own else due, 4)))), as_it_is if own else said
+
+
+def behind_short(rnd):
+    """Bytes behind the short header that are no map: those that the long one has as reserved bytes, and they are not zero."""
+    for kept in cycle(rnd, [0, 0, 4, 4]):  # of the map's head, its Length or nothing
+        board, nonzero = some(rnd, header=SHORT), bytes(rnd.randint(1, 255) for _ in range(16))
+        board.parts[0][10:12] = le(rnd.choice([0, 0, 0, 1]), 2)
+        data = b"$" + nonzero[1:12] + board.parts[1][12:16] if kept else nonzero
+        yield lend(rnd, board.image((SHORT, data))), refused(25 if kept else 23, SHORT)
 
 
 def rule_23(rnd):
@@ -552,7 +644,7 @@ def rule_23(rnd):
             just = end - at
             length = just + v if isinstance(v, int) else {
                 "half": 2 ** 31, "most": 2 ** 32 - 1, "F0": 2 ** 32 - 16, "wrap": 2 ** 32 - at,
-                "wrap to end": 2 ** 32 - at + min(0x30, at - 1)}[v]
+                "wrap to end": 2 ** 32 - at + min(board.header(), at - 1)}[v]
             yield lend(rnd, board.image((at + 12, le(length, 4))), 0.6), refused(23, at)
         elif part == "exact":  # an unknown structure that takes in all that follows it
             before = some_others(rnd, 2, 0)
@@ -628,8 +720,9 @@ def rule_25(rnd):
                 eemap[12:16] = le(len(eemap), 4)
             board = Board([head, eemap])
             if w == "second":
-                image = board.image((0x10, le(0x30, 4)))
-                yield rnd.choice([image, image[:0x30]]), refused(25, 0x30)
+                h = board.header()
+                image = board.image((0x10, le(h, 4)))
+                yield rnd.choice([image, image[:h]]), refused(25, h)
             else:
                 yield lend(rnd, board.image()), refused(25, board.end())
         elif part == "later":
@@ -700,9 +793,9 @@ def rule_27(rnd):
     """A wrong Crc32: a bit, any value, other CRCs and other ranges. A wrong CrcLength, with a right Crc32 and one over it."""
     variants = [("bit", i) for i in range(32)]
     variants += [(w, 0) for w in ("any", "zero", "good", "swapped", "no inversion", "start 0", "Castagnoli", "bzip2")]
-    variants += [("stored", v) for v in (1, 0xFFFFFFFF, None, None)] * 2 + [("from", v) for v in (8, 0x10, 0x14, 0x18, 0x1C, 0x30)]
+    variants += [("stored", v) for v in (1, 0xFFFFFFFF, None, None)] * 2 + [("from", v) for v in (8, 0x10, 0x14, 0x18, 0x1C, *HEADERS)]
     variants += [("with EepromSig", 0), ("up to $PromSig", 0), ("up to 10h of it", 0), ("one less", 0)] * 2
-    lengths = ["0", "30h", "StructLen", "StructLen - 1", "StructLen + 1", "rounded", "most", "$PromSig", "10h of it", "one more",
+    lengths = ["0", "20h", "30h", "StructLen", "StructLen - 1", "StructLen + 1", "rounded", "most", "$PromSig", "10h of it", "one more",
                "one less"]
     variants += [("length", w) for w in lengths] * 2 + [("length over", w) for w in lengths] + [("both", w) for w in lengths]
     for part, v in cycle(rnd, variants):
@@ -713,8 +806,9 @@ def rule_27(rnd):
         right = crc_of(image, summed)
         if part in ("length", "length over", "both"):
             end = len(image)
-            length = {"0": 0, "30h": 0x30, "StructLen": end, "StructLen - 1": end - 1, "StructLen + 1": end + 1, "rounded": up(end),
-                      "most": 0xFFFFFFFF, "$PromSig": last, "10h of it": last + 0x10, "one more": summed + 1, "one less": summed - 1}[v]
+            length = {"0": 0, "20h": SHORT, "30h": LONG, "StructLen": end, "StructLen - 1": end - 1, "StructLen + 1": end + 1,
+                      "rounded": up(end), "most": 0xFFFFFFFF, "$PromSig": last, "10h of it": last + 0x10, "one more": summed + 1,
+                      "one less": summed - 1}[v]
             if length == summed:
                 continue
             image = image[:0x18] + le(length, 4) + image[0x1C:]
@@ -743,9 +837,9 @@ def rule_27(rnd):
 
 
 def rule_28(rnd):
-    """Case 12 and around it, with any other content."""
-    for n in cycle(rnd, [121, 122, 122, 122, 123, 123, 123, 124, 130]):
-        board = some(rnd, some_others(rnd, rnd.choice([0, 0, 2])), n)
+    """Case 12 and around it with each header, and any other content."""
+    for n, h in cycle(rnd, [(n, h) for n in (121, 122, 122, 122, 123, 123, 123, 124, 130) for h in HEADERS]):
+        board = some(rnd, some_others(rnd, rnd.choice([0, 0, 2])), n, h)
         changes = []
         if n > 122 and rnd.random() < 0.5:
             changes = [s[1:] for s in rnd.sample(spots(board, rnd.choice([30, 34, 31])), 1)]
@@ -823,18 +917,13 @@ def rule_30_fields(rnd):
                 continue
             change, bad = (at + 0x26, le(size, 4)), at + 0x26
         elif part == "product":  # the product in 32 bits is the PartSize
-            board = some(rnd, records=rnd.choice([2, 3, 4, 8]))
-            n = board.records()
+            n = rnd.choice([2, 4, 8] if v == "wraps to 0" else [2, 3, 4, 8])
+            board = some(rnd, records=n)
             if v == "just fits":
                 board.fit(0xFFFFFFFF // n)
-            elif v == "wraps":
-                board.fit(-(-(2 ** 32 + board.end() + rnd.randint(0, 5000)) // n))
-                bad = at + 0x26
             else:
-                n = rnd.choice([2, 4, 8])
-                board = some(rnd, records=n)
-                board.fit(2 ** 32 // n)
-                bad = at + 0x26
+                board.fit(2 ** 32 // n if v == "wraps to 0" else -(-(2 ** 32 + board.end() + rnd.randint(0, 5000)) // n))
+                bad = board.at(1) + 0x26
         elif part == "below":  # a product that is StructLen, one block of one byte less, or more
             n = rnd.choice([1, 1, 2, 3, 4])
             before = some_others(rnd, 2, 0)
@@ -845,7 +934,7 @@ def rule_30_fields(rnd):
             block = board.end() // n
             assert block * n == board.end()
             board.fit(block + v)
-            bad = at + 0x26 if v < 0 else None
+            bad = board.at(1) + 0x26 if v < 0 else None
         elif part == "Length":
             if v == "block" and block == 0x20:
                 continue
@@ -976,7 +1065,7 @@ def rule_32(rnd):
             others = others + [some_known(rnd, kind, rnd.randint(1, 3) if kind == GPIO else None, 0)] + some_others(rnd, 1, 0)
         if kind == PROMSIG or rnd.random() < 0.2:
             others.append(some_promsig(rnd))
-        board = some(rnd, others)
+        board = some(rnd, others, header=LONG if kind == EEPROM else None)
         k = [bytes(part[:8]) for part in board.parts].index(kind)  # the first of its kind
         part = board.parts[k]
         if kind in LISTED and part[8:10] != le(1, 2):
@@ -1113,10 +1202,10 @@ def two_rules(rnd):
         for rule in sorted(broken, key=RULES.index, reverse=True):
             if rule == 21:
                 where[rule] = 0
-                changes.append(rnd.choice([(1, b"e"), (8, le(2, 2)), (12, le(0x20, 4))]))
+                changes.append(rnd.choice([(1, b"e"), (8, le(2, 2)), (12, le(rnd.choice(NO_HEADER), 4))]))
             elif rule == 22:
                 where[rule] = 0x10
-                changes.append((0x10, le(rnd.choice([0x2F, board.end() + 1, 0xFFFFFFFF]), 4)))
+                changes.append((0x10, le(rnd.choice([board.header() - 1, board.end() + 1, 0xFFFFFFFF]), 4)))
             elif rule == 23:
                 where[rule] = board.at(rnd.randint(1, board.last()))
                 changes.append(rnd.choice([(where[rule], b"E"), (where[rule] + 12, le(15, 4)), (where[rule] + 12, le(board.end(), 4))]))
@@ -1139,37 +1228,30 @@ def two_rules(rnd):
 
 
 def truncations(rnd):
-    """Every truncation of some image, from nothing to all of it; then of the next."""
+    """Every truncation of two images, one with each header, from nothing to all of it; then of the next two."""
     while True:
-        board = some(rnd, some_others(rnd, 2))
-        image = board.image()
-        for n in cut_points(rnd, len(image)):
-            yield image[:n], refused(20, 0) if n < 0x30 else refused(22, 0x10) if n < len(image) else good(board)
+        boards = [some(rnd, some_others(rnd, 2), header=h) for h in HEADERS]
+        for board, n in shuffled(rnd, ((board, n) for board in boards for n in range(board.end() + 1))):
+            yield board.image()[:n], refused(20, 0) if n < SHORT else refused(22, 0x10) if n < board.end() else good(board)
 
 
-def cut_points(rnd, n):
-    points = list(range(n + 1))
-    rnd.shuffle(points)
-    return points
+def shuffled(rnd, made):
+    out = list(made)
+    rnd.shuffle(out)
+    return out
 
 
 def truncations_checked(rnd):
-    """Every truncation of some image with StructLen, CrcLength and Crc32 made right again: a structure's end, or none where one is due."""
+    """Every truncation of two images, one with each header, StructLen, CrcLength and Crc32 made right again: a structure's end, or none
+    where one is due."""
     while True:
-        board = some(rnd, some_others(rnd, 3, 0))
-        image = board.image()
-        ends = [board.at(k) + len(part) for k, part in enumerate(board.parts)]
-        for n in cut_points(rnd, len(image)) + ends * 4:
-            if n < 0x30:
-                continue
+        boards = [some(rnd, some_others(rnd, 3, 0), header=h) for h in HEADERS]
+        for board, n in shuffled(rnd, ((board, n) for board in boards for n in [*range(SHORT, board.end() + 1), *board.ends() * 4])):
+            image = board.image()
             cut = image[:0x10] + le(n, 4) + image[0x14:0x18] + le(n, 4) + image[0x1C:]
             cut = with_crc(cut, crc_of(cut, n))
-            k = sum(end <= n for end in ends)  # structures that are whole
-            if n in ends:
-                said = "accepted %d" % k if k >= 3 else refused(25, n)
-            else:
-                said = refused(23, board.at(k))
-            yield rnd.choice([cut[:n], cut]), said
+            cut = rnd.choice([cut[:n], cut])
+            yield cut, cut_to(board, n, len(cut)) or "accepted %d" % sum(end <= n for end in board.ends())
 
 
 def mutated(rnd):
@@ -1197,7 +1279,7 @@ def random_behind_header(rnd):
     """Random bytes behind a good header, or behind a good map and board."""
     while True:
         front = some(rnd, [])
-        image = front.image()[:rnd.choice([0x30, 0x30, front.at(2), front.end()])]
+        image = front.image()[:rnd.choice([front.header(), front.header(), front.at(2), front.end()])]
         letters = rnd.choice([bytes(range(256)), b"\0\1\x10\x20$", b"$\0\0\x10"])
         image += bytes(rnd.choice(letters) for _ in range(rnd.choice([0, 1, 16, 17, rnd.randint(0, 300)])))
         yield whole(rnd, image), "?"
@@ -1230,7 +1312,7 @@ def large(rnd):
                 "many", "records", "bad record", "reserved", "signed", "middle", "random"]
     for part in cycle(rnd, variants):
         board = some(rnd)
-        small = board.image()
+        small, header = board.image(), board.header()
         if part.startswith("lent"):
             n = int(part[5:])
             yield small + some_bytes(rnd, n - len(small)), good(board) if n <= LONGEST else refused(20, 0)
@@ -1244,7 +1326,7 @@ def large(rnd):
             end -= rnd.randint(2, 15)
         elif part == "middle":
             end = rnd.randint(2000, 60000)
-        room = end - sum(len(t) for t in tail) - Board([some_header(rnd), some_map(rnd, 4), some_board(rnd)] + before + [b""]).end()
+        room = end - sum(len(t) for t in tail) - Board([some_header(rnd, header), some_map(rnd, 4), some_board(rnd)] + before + [b""]).end()
         if part == "many":
             filling = [structure(some_signature(rnd), b"") for _ in range(room // 16)]
         elif part in ("records", "bad record"):
@@ -1256,7 +1338,7 @@ def large(rnd):
             filling = [rnd.choice([some_unknown(rnd, room - 16), some_known(rnd, LOGO, room - 0x20)])]
         else:
             filling = [rnd.choice([some_unknown(rnd, room - 16), some_known(rnd, NIC, room - 0x30)])]
-        board = some(rnd, before + filling + tail, 4)
+        board = some(rnd, before + filling + tail, 4, header)
         image = board.image()
         assert len(image) <= LONGEST, part
         if part == "65536":
@@ -1285,10 +1367,11 @@ def large(rnd):
 
 def plain(records=1, others=(), block=None, **over):
     """Case 13 and its like: fixed contents, save what is given."""
-    f = dict(version=4, label=b"rig", page=32, bus=0, master=1, speed=2, names=(b"Gwejlusa", b"rig", b"0001"), labels=(b"top1",))
+    f = dict(header=LONG, version=4, label=b"rig", page=32, bus=0, master=1, speed=2, names=(b"Gwejlusa", b"rig", b"0001"),
+             labels=(b"top1",))
     f.update(over)
     labels = list(f["labels"]) + [b"top%d" % k for k in range(len(f["labels"]) + 1, records + 1)]
-    return Board([header(f["version"]),
+    return Board([header(f["version"], reserved=bytes(f["header"] - SHORT)),
                   eeprom_map(labelled(f["label"]), f["page"], f["bus"], f["master"], f["speed"],
                              [map_record(labelled(text), 0x50 + k % 0x30) for k, text in enumerate(labels[:records])]),
                   board_info([named(n) for n in f["names"]], (1, 2, 3), 0), *others], 4096 if block is None else block)
@@ -1298,15 +1381,16 @@ def case_13():
     return plain().image()
 
 
-def paper_cases(_):
-    """Cases 12 and 13 of the build paper, the numbers of records beside 122, and two records that are both labelled top1."""
-    while True:
-        yield case_13(), "accepted 3"
+def paper_cases():
+    """Cases 12 and 13 of the build paper, the numbers of records beside 122, and two records that are both labelled top1, with each
+    header."""
+    for h in HEADERS:
+        yield plain(header=h).image(), "accepted 3"
         for n in (121, 122):
-            yield plain(n).image(), "accepted 3"
+            yield plain(n, header=h).image(), "accepted 3"
         for n in (123, 124):
-            yield plain(n).image(), refused(28, 0x60 + 0x20 * n)
-        yield plain(2, labels=(b"top1", b"top1")).image(), refused(34, 0x80)
+            yield plain(n, header=h).image(), refused(28, h + 0x30 + 0x20 * n)
+        yield plain(2, labels=(b"top1", b"top1"), header=h).image(), refused(34, h + 0x50)
 
 
 def sample_images():
@@ -1319,8 +1403,9 @@ def sample_images():
     every = [structure(kind, fixed[kind]) for kind in LISTED]
     sig = structure(PROMSIG, le(3, 2) + bytes(14) + bytes(range(32)))
     signed = structure(PROMSIG, le(SIGNED + 3, 2) + bytes(14) + bytes(range(96)))
-    out = {"case13": case_13(), "case12": plain(122).image(), "all-kinds": plain(2, every + [sig]).image(),
-           "signed": plain(1, [signed]).image(), "longer-than-StructLen": case_13() + b"$AcpiTbl" + b"\xff" * 24}
+    out = {"case13": case_13(), "short-header": plain(header=SHORT).image(), "case12": plain(122).image(),
+           "all-kinds": plain(2, every + [sig]).image(), "signed": plain(1, [signed]).image(),
+           "longer-than-StructLen": case_13() + b"$AcpiTbl" + b"\xff" * 24}
     out["unknown"] = plain(1, [structure(b"$Fan", bytes(16)), structure(b"$Fan A\"\\", b"\1\2\3"), structure(LOGO, b"\xff" * 5, 2),
                                structure(VIDEO, b"\xff" * 17, 1, 2), structure(b"$\x01\x7f\xe9  \0x", b"\4")]).image()
     out["escapes"] = plain(2, [structure(NIC, b'a\0"b\\\x7f  ' + bytes(8) + bytes(16)),
@@ -1355,15 +1440,23 @@ def record(mask, image):
 
 
 def gate_records():
-    """Case 12, one record more, and its last label twice; the samples with the full and with the bare list; what is beside case 13; records
-    of nearly one label and of one; a structure of each listed kind with several lists; and of each group a good image and a bad one, if it
-    has both."""
+    """Case 12 and one record more with each header, and its last label twice; the samples with the full and with the bare list; what is
+    beside case 13, with each header; records of nearly one label and of one; a structure of each listed kind with several lists; and of
+    each group a good image and a bad one, if it has both."""
     rnd = random.Random("records")
-    case, every = case_13(), [structure(kind, bytes(0x20)) for kind in LISTED]
+    every = [structure(kind, bytes(0x20)) for kind in LISTED]
     twice = [b"top%d" % min(k, 121) for k in range(1, 123)]
-    out = [record(FULL, board.image()) for board in (plain(122), plain(123), plain(122, labels=twice))]
+    boards = [plain(n, header=h) for h in (LONG, SHORT) for n in (122, 123)] + [plain(122, labels=twice)]
+    out = [record(FULL, board.image()) for board in boards]
     out += [record(mask, image) for image in sample_images().values() if len(image) < 4096 for mask in (FULL, 0)]
-    out += [record(FULL, image) for image in (case[:0x2F], case[:0x30], case + b"\0", plain(2).image(), b"")]
+    for h in HEADERS:
+        board = plain(header=h)
+        image = board.image()
+        out += [record(FULL, image[:n]) for n in (SHORT - 1, SHORT, LONG - 1, LONG)] + [record(FULL, image + b"\0")]
+        out += [record(FULL, board.image((0x10, le(n, 4)))) for n in (SHORT - 1, SHORT, SHORT + 1, LONG - 1, LONG, LONG + 1)]
+        out += [record(FULL, board.image((12, le(n, 4)))) for n in (*HEADERS, 0, 0x10, SHORT + 1, LONG - 1, LONG + 1, 0x10020)]
+        out += [record(FULL, board.image((place, b"\1"))) for place in (10, SHORT, LONG - 1)]
+    out += [record(FULL, image) for image in (plain(2).image(), b"")]
     labels = ((b"rig", b"top1"), (b"", b""), (b"", b" "), (b"a" * 15, b"a" * 16), (b"a" * 16, b"a" * 16), (b"a", b"b", b"b", b"a"))
     out += [record(FULL, plain(len(texts), labels=texts).image()) for texts in labels]
     out += [record(mask, plain(1, every).image()) for mask in (FULL, 0, 0xFF, FULL - 0x400, 0x400, 0x10000, 0x155AA)]
@@ -1381,17 +1474,18 @@ def gate_records():
 
 # a group, how many images it gives in a turn, and in which turns (every so many)
 GROUPS = [(good_mixed, 8, 1), (good_each_kind, 3, 1), (good_lengths, 3, 1), (good_records, 2, 1), (good_unknown, 2, 1), (good_near, 1, 1),
-          (good_many, 1, 2), (good_names, 1, 1), (rule_20, 2, 1), (rule_21, 2, 1), (rule_22, 2, 1), (rule_23, 6, 1), (rule_24, 4, 1),
-          (rule_25, 5, 1), (rule_26, 4, 1), (rule_27, 6, 1), (rule_28, 1, 2), (rule_29, 5, 1), (rule_30_labels, 5, 1),
+          (good_many, 1, 2), (good_names, 1, 1), (rule_20, 4, 1), (rule_21, 2, 1), (rule_22, 2, 1), (damaged_header, 4, 1),
+          (other_length, 2, 1), (behind_short, 1, 1), (rule_23, 6, 1), (rule_24, 4, 1), (rule_25, 5, 1), (rule_26, 4, 1),
+          (rule_27, 6, 1), (rule_28, 1, 2), (rule_29, 5, 1), (rule_30_labels, 5, 1),
           (rule_30_fields, 6, 1), (rule_34, 7, 1), (rule_31, 1, 1), (rule_32, 10, 1), (cut_fields, 5, 1), (rule_33_fields, 4, 1),
-          (rule_33_labels, 4, 1), (rule_33_cut, 2, 1), (two_places, 4, 1), (two_structures, 1, 1), (two_rules, 6, 1), (truncations, 3, 1),
-          (truncations_checked, 5, 1), (mutated, 5, 1), (mutated_heads, 4, 1), (random_behind_header, 3, 1), (random_structures, 4, 1),
+          (rule_33_labels, 4, 1), (rule_33_cut, 2, 1), (two_places, 4, 1), (two_structures, 1, 1), (two_rules, 6, 1), (truncations, 5, 1),
+          (truncations_checked, 6, 1), (mutated, 5, 1), (mutated_heads, 4, 1), (random_behind_header, 3, 1), (random_structures, 4, 1),
           (large, 1, 4)]
 
 
 def images(seed):
     """All images, for ever: (group, image, what the full list answers)."""
-    for case in itertools.islice(paper_cases(None), 6):
+    for case in paper_cases():
         yield ("paper_cases",) + case
     running = [(g.__name__, g(random.Random("%s %s" % (seed, g.__name__))), n, every) for g, n, every in GROUPS]
     turn = 0

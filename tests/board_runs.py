@@ -1,13 +1,14 @@
 #!/usr/bin/env python3
 """Requests to the board writer, and pairs of images for the choice.
 
-`requests(seed)` gives requests for ever, each as (room, request, answer): how many bytes of buffer are lent, the five parts of the
+`requests(seed)` gives requests for ever, each as (room, request, answer): how many bytes of buffer are lent, the other six parts of the
 request (Request), and the line that must be answered by the way the request was made, or None where the maker does not know. There are
 good ones of every kind, each refusal on both sides of its bound, several refusals at once, truncations, images of board_images.py taken
 apart, and random bytes. `pairs(seed)` gives pairs for ever, each as (list, firmware, EEPROM, answer): the two images, and the line that
 says which is chosen, or None. There are all of accepted and refused, boards that differ in one byte, Versions on both sides of each
-other, and lists with which only one image is accepted. The same seed gives the same. Both come from groups taken in turn (GROUPS and
-PAIRS). A group walks round its list of variants, and puts each into fresh random surroundings.
+other, a short header on one side and a long one on the other, and lists with which only one image is accepted. The same seed gives the
+same. Both come from groups taken in turn (GROUPS and PAIRS). A group walks round its list of variants, and puts each into fresh random
+surroundings, with the short or the long header.
 
 `line(rnd, room, request)` is a request as tests/README.md has it, and `OTHER_LINES` are lines that are none. `record(list, firmware,
 eeprom)` is a pair as tests/README.md has it, and `choice_text` is all that must be answered to it.
@@ -23,69 +24,87 @@ import random
 import sys
 
 import board_images
-from board_images import ASK_LIST, BOARD, EEPROM, FPGA, FULL, GPIO, HASHES, LISTED, LONGEST, LOGO, MAP, PROMSIG, RESERVED, SIGNED
-from board_images import Board, crc_of, cut_points, labelled, le, lend, plain, repeated, rich, same_labels, shared, some, some_bytes
-from board_images import some_known, some_label, some_map, some_name, some_number, some_others, some_promsig, some_unknown, spots, structure
-from board_images import up, with_crc
+from board_images import ASK_LIST, BOARD, EEPROM, FPGA, FULL, GPIO, HASHES, HEADERS, LISTED, LONG, LONGEST, LOGO, MAP, NO_HEADER
+from board_images import PROMSIG, RESERVED, SHORT, SIGNED
+from board_images import Board, crc_of, labelled, le, lend, plain, repeated, resized, rich, same_labels, shared, shuffled, some
+from board_images import some_bytes, some_known, some_label, some_map, some_name, some_number, some_others, some_promsig, some_unknown
+from board_images import spots, structure, up, with_crc
 from tiny_images import cycle
 from tiny_runs import blanks, in_hex, refused, written
 
 MOST = 65600  # bytes in a buffer, in a run of records and in further bytes
 ORDER = (46, 40, 41, 23, 24, 25, 26, 28, 29, 30, 34, 31, 32, 33, 45)  # which refusal is given if several apply
 GIVEN = 17  # bytes of a record in a run
-PART_SIZE = 0x30 + 0x26  # its place
 
-# Version; the map's fields; the run of records; the board's fields; further bytes
-Request = collections.namedtuple("Request", "version fields records names further")
+# the header's Length in one byte; Version; the map's fields; the run of records; the board's fields; further bytes
+Request = collections.namedtuple("Request", "header version fields records names further")
+
+
+class Laid(collections.namedtuple("Laid", "header records")):
+    """Where the parts of an image lie that is laid as a writer does it, by its header's Length and the number of its records."""
+
+    def record(self, k):
+        return self.header + 0x30 + 0x20 * k
+
+    def board(self):
+        return self.record(self.records)
+
+    def further(self):
+        """Where the board ends, and the further bytes start."""
+        return self.board() + 0x60
 
 
 # ---- building ----
 
-def front(n):
-    """Where the board of n records ends, and the further bytes start."""
-    return 0xC0 + 0x20 * n
+def laid(request):
+    return Laid(request.header[0], len(request.records) // GIVEN)
+
+
+def laid_as(board):
+    return Laid(board.header(), board.records())
 
 
 def size_of(request):
-    return front(len(request.records) // GIVEN) + len(request.further)
+    return laid(request).further() + len(request.further)
 
 
 def image_of(request):
     """The image of a request without a $PromSig."""
     rows = [request.records[at:at + GIVEN] for at in range(0, len(request.records), GIVEN)]
     block, total = int.from_bytes(request.fields[16:20], "little"), size_of(request)
-    out = structure(EEPROM, le(total, 4) + bytes(4) + le(total, 4) + request.version + bytes(16))
+    out = structure(EEPROM, le(total, 4) + bytes(4) + le(total, 4) + request.version + bytes(request.header[0] - SHORT))
     out += structure(MAP, request.fields + bytes(3) + b"".join(
         row[:16] + le(0x20, 4) + le(k * block & 0xFFFFFFFF, 4) + row[16:] + bytes(7) for k, row in enumerate(rows)))
     out += structure(BOARD, request.names + bytes(19)) + request.further
     return with_crc(out, crc_of(out, total))
 
 
-def apart(image, n, end=None):
-    """The parts of an image whose map has n records and whose board follows it."""
-    at = front(n)
-    records = b"".join(image[r:r + 16] + image[r + 0x18:r + 0x19] for r in range(0x60, at - 0x60, 0x20))
-    return Request(*map(bytes, (image[0x1C:0x20], image[0x40:0x5D], records, image[at - 0x50:at - 0x13], image[at:end])))
+def apart(image, where, end=None):
+    """The parts of an image that lie as a writer lays them."""
+    h, at = where.header, where.board()
+    records = b"".join(image[r:r + 16] + image[r + 0x18:r + 0x19] for r in map(where.record, range(where.records)))
+    return Request(*map(bytes, ([h], image[0x1C:0x20], image[h + 0x10:h + 0x2D], records, image[at + 0x10:at + 0x4D],
+                                image[where.further():end])))
 
 
 def asked(board, *changes):
     """The request for a board, changes (place, bytes) made in its image."""
-    return apart(board.image(*changes), board.records())
+    return apart(board.image(*changes), laid_as(board))
 
 
 def as_written(board):
     """VerMinor 0 and zero reserved bytes in the first three structures."""
     for part in board.parts[:3]:
         start, end = RESERVED[bytes(part[:8])]
-        part[10:12], part[start:end] = bytes(2), bytes(end - start)
+        part[10:12], part[start:end] = bytes(2), bytes(min(end, len(part)) - start)
     for at in range(0x30, len(board.parts[1]), 0x20):
         board.parts[1][at + 0x19:at + 0x20] = bytes(7)
     return board
 
 
-def some_writable(rnd, others=None, records=None):
+def some_writable(rnd, others=None, records=None, header=None):
     """A good board that a writer can make, of any content save what is given."""
-    return as_written(some(rnd, some_others(rnd, signed=0) if others is None else others, records))
+    return as_written(some(rnd, some_others(rnd, signed=0) if others is None else others, records, header))
 
 
 def enough(rnd, total):
@@ -95,7 +114,8 @@ def enough(rnd, total):
 
 
 def any_room(rnd):
-    return rnd.choice([0, 0, 1, 0xDF, 0xE0, 0xE1, rnd.randint(0, 2000)] + [rnd.choice([65535, LONGEST, MOST])] * (rnd.random() < 0.03))
+    return rnd.choice([0, 0, 1, 0xCF, 0xD0, 0xD1, 0xDF, 0xE0, 0xE1, rnd.randint(0, 2000), rnd.randint(0, 2000)]
+                      + [rnd.choice([65535, LONGEST, MOST])] * (rnd.random() < 0.03))
 
 
 def answered(request, room, number=0, place=0):
@@ -123,19 +143,24 @@ def filling(rnd, size):
 
 # ---- images taken apart ----
 
-def records_of(image):
-    """How many records the map has, if the map and the board lie in the image as a writer lays them; else None."""
+def lies(image):
+    """Where its parts lie, if the map and the board lie in the image as a writer lays them; else None. The map's place is the Length of the
+    header, whatever that says."""
     end = int.from_bytes(image[0x10:0x14], "little")
-    n, left = divmod(int.from_bytes(image[0x3C:0x40], "little") - 0x30, 0x20)
-    if left or n < 0 or not front(n) <= end <= len(image) or image[0x30:0x38] != MAP:
-        return None
-    at = front(n) - 0x60
-    return n if image[at:at + 8] == BOARD and image[at + 12:at + 16] == le(0x60, 4) else None
+    for h in HEADERS:
+        n, left = divmod(int.from_bytes(image[h + 12:h + 16], "little") - 0x30, 0x20)
+        where = Laid(h, n)
+        if left or n < 0 or not where.further() <= end <= len(image) or image[h:h + 8] != MAP:
+            continue
+        at = where.board()
+        if image[at:at + 8] == BOARD and image[at + 12:at + 16] == le(0x60, 4):
+            return where
+    return None
 
 
-def last_place(image):
-    """Where the last structure of an image lies whose walk is good."""
-    at, end = 0x30, int.from_bytes(image[0x10:0x14], "little")
+def last_place(image, where):
+    """The place of the last structure of an image whose walk is good."""
+    at, end = where.header, int.from_bytes(image[0x10:0x14], "little")
     while True:
         ends = at + int.from_bytes(image[at + 12:at + 16], "little")
         if ends == end:
@@ -143,44 +168,44 @@ def last_place(image):
         at = up(ends)
 
 
-def carried(number, place, n):
+def carried(number, place, where):
     """Whether what breaks the rule there is given to the writer, and not worked out by it."""
     if number == 26:
-        return n == 0 and place == 0x30 or place >= front(n)
+        return where.records == 0 and place == where.header or place >= where.further()
     if number == 30:  # not the Length and the Offset of a record
-        return place < 0x60 or (place - 0x60) % 0x20 not in (0x10, 0x14)
-    return number in (28, 34, 31) or number in (23, 24, 25, 29, 32, 33) and place >= front(n)
+        return place < where.record(0) or (place - where.record(0)) % 0x20 not in (0x10, 0x14)
+    return number in (28, 34, 31) or number in (23, 24, 25, 29, 32, 33) and place >= where.further()
 
 
-def said_of(image, n, said, alone):
+def said_of(image, where, said, alone):
     """What is due for the parts of an image of which the judge says so much; alone: nothing but that is broken in it. What a writer works
     out is never broken, and what it is given breaks the same rules in the same places."""
     words = said.split()
     if words[0] == "refused":
         number, place = map(int, words[1:])
-        if carried(number, place, n):
+        if carried(number, place, where):
             return number, place
     if words[0] == "?" or words[0] == "refused" and not alone:
         return None, 0
-    last = last_place(image)
+    last = last_place(image, where)
     return (45, last) if image[last:last + 8] == PROMSIG else (0, 0)
 
 
-def can_be_made(image, n):
+def can_be_made(image, where):
     """Whether the first three structures have VerMinor 0, so that an accepted image is rebuilt to the last byte."""
-    return all(image[at + 10:at + 12] == bytes(2) for at in (0, 0x30, front(n) - 0x60))
+    return all(image[at + 10:at + 12] == bytes(2) for at in (0, where.header, where.board()))
 
 
 def taken_apart(rnd, made, alone=False):
-    """Images from their own parts: the same image, or the same refusal if what broke the rule was given."""
+    """Images from their own parts, the header's Length among them: the same image, or the same refusal if what broke the rule was given."""
     for image, said in made:
-        n = records_of(image)
-        if n is None:
+        where = lies(image)
+        if where is None:
             continue
         end = int.from_bytes(image[0x10:0x14], "little")
-        request, (number, place) = apart(image, n, end), said_of(image, n, said, alone)
+        request, (number, place) = apart(image, where, end), said_of(image, where, said, alone)
         room = rnd.choice([0, end - 1]) if rnd.random() < 0.04 else enough(rnd, end)
-        if said.startswith("accepted") and number == 0 and room >= end and can_be_made(image, n):
+        if said.startswith("accepted") and number == 0 and room >= end and can_be_made(image, where):
             yield room, request, written(room, image[:end])
         else:
             yield answered(request, room, number, place)
@@ -221,6 +246,17 @@ def good_further(rnd):
         yield due(rnd, asked(some_writable(rnd, others)))
 
 
+def each_header(rnd):
+    """The same request with each header, in rooms for both images and for the shorter one alone. With the long header PartSize may be below
+    StructLen."""
+    while True:
+        short = asked(some_writable(rnd, rnd.choice([[], None]), header=SHORT))
+        requests = [short._replace(header=bytes([h])) for h in HEADERS]
+        for request, room in itertools.product(requests, map(size_of, requests)):
+            small = int.from_bytes(request.fields[22:26], "little") < size_of(request)
+            yield answered(request, room, *(30, request.header[0] + 0x26) if small else ())
+
+
 def rooms(rnd):
     """A room of a byte less, just enough, a byte more, none at all, any less."""
     while True:
@@ -254,19 +290,20 @@ def rule_40(rnd):
     variants = [("further", t) for t in totals] + [("records", n) for n in (2041, 2042, 2043, 3858)]
     variants += [("both", d) for d in (-1, 0, 1, 2)] + [("most", 0)]
     for part, v in cycle(rnd, variants):
-        room = rnd.choice([0, 65535, LONGEST, LONGEST, 65537, MOST])
+        room, header = rnd.choice([0, 65535, LONGEST, LONGEST, 65537, MOST]), rnd.choice(HEADERS)
         if part == "further":
-            board = some_writable(rnd, [], rnd.choice([1, 2, 122]))
+            n = rnd.choice([1, 2, 122])
             before = rnd.choice([[], [structure(b"$Fan", b"")]])
-            others = before + [filling(rnd, v - board.end() - 16 * len(before))]
-            yield answered(asked(some_writable(rnd, others, board.records())), room)
+            others = before + [filling(rnd, v - Laid(header, n).further() - 16 * len(before))]
+            yield answered(asked(some_writable(rnd, others, n, header)), room)
         elif part == "most":
             request = asked(some_writable(rnd, []))
             yield answered(request._replace(further=some_bytes(rnd, MOST)), room)
         else:
             n = v if part == "records" else rnd.choice([1000, 2000, 2040])
-            others = [] if part == "records" else [filling(rnd, LONGEST + v - front(n))]
-            yield answered(asked(some_writable(rnd, others, n)), room, 28, front(n) - 0x60)
+            where = Laid(header, n)
+            others = [] if part == "records" else [filling(rnd, LONGEST + v - where.further())]
+            yield answered(asked(some_writable(rnd, others, n, header)), room, 28, where.board())
 
 
 def rule_45(rnd):
@@ -325,7 +362,7 @@ def rule_26_none(rnd):
         request = asked(some_writable(rnd, some_others(rnd, 2, 0.2)))
         fields = rnd.choice([request.fields, rnd.randbytes(29), bytes(29)])
         names = rnd.choice([request.names, rnd.randbytes(61)])
-        yield due(rnd, request._replace(fields=fields, names=names, records=b""), 26, 0x30)
+        yield due(rnd, request._replace(fields=fields, names=names, records=b""), 26, request.header[0])
 
 
 def rule_34(rnd):
@@ -344,7 +381,7 @@ def rule_34(rnd):
         if part == 46:
             request = request._replace(records=request.records + bytes(rnd.randint(1, 16)))
         elif part == 40:
-            request = request._replace(further=bytes(filling(rnd, LONGEST + rnd.choice([1, 16]) - front(n))))
+            request = request._replace(further=bytes(filling(rnd, LONGEST + rnd.choice([1, 16]) - laid(request).further())))
         total = size_of(request)
         yield answered(request, rnd.choice([0, total - 1]) if part == 41 else min(MOST, enough(rnd, total)), number, place)
 
@@ -356,23 +393,23 @@ def given_fields(rnd):
     variants += [("fields", p, 0) for p in (*range(16, 20), *range(22, 26))]
     for part, p, values in cycle(rnd, variants):
         board = some_writable(rnd)
-        request = asked(board)
+        request, at = asked(board), board.at(1)
         data = bytearray(getattr(request, part))
         value = rnd.choice([0, 1, 2, 3, 4, 127, 128, 255, rnd.randrange(256)])
         if values == 0:  # BlkLength or PartSize, which no longer fit each other
             value = data[p] ^ 1 << rnd.randrange(8)
             block = int.from_bytes(data[16:p] + bytes([value]) + data[p + 1:20], "little") if p < 20 else 1
-            number, place = 30, PART_SIZE if block else 0x50
+            number, place = 30, at + 0x26 if block else at + 0x20
         else:
             number = 0 if value < values else 31 if part == "names" else 30
-            place = board.at(2) + 0x4C if part == "names" else 0x40 + p
+            place = board.at(2) + 0x4C if part == "names" else at + 0x10 + p
         data[p] = value
         yield due(rnd, request._replace(**{part: bytes(data)}), number, place)
 
 
 def broken_spots(board, rule):
     """Where one change of what is given breaks a rule."""
-    return [spot for spot in spots(board, rule) if carried(rule, spot[0], board.records())]
+    return [spot for spot in spots(board, rule) if carried(rule, spot[0], laid_as(board))]
 
 
 def several(rnd):
@@ -410,35 +447,35 @@ def several(rnd):
 
 
 def record_truncations(rnd):
-    """Every truncation of a run of records: where a record ends PartSize no longer fits, or there is no record left."""
+    """Every truncation of a run of records, with each header: where a record ends PartSize no longer fits, or there is no record left."""
     while True:
-        request = asked(some_writable(rnd, records=rnd.randint(1, 3)))
-        for n in cut_points(rnd, len(request.records)):
-            number, place = (0, 0) if n == len(request.records) else (30, PART_SIZE) if n else (26, 0x30)
+        requests = [asked(some_writable(rnd, records=rnd.randint(1, 3), header=h)) for h in HEADERS]
+        for request, n in shuffled(rnd, ((request, n) for request in requests for n in range(len(request.records) + 1))):
+            at = request.header[0]  # the map's place
+            number, place = (0, 0) if n == len(request.records) else (30, at + 0x26) if n else (26, at)
             yield due(rnd, request._replace(records=request.records[:n]), number, place)
 
 
 def further_truncations(rnd):
-    """Every truncation of some further bytes: good where a structure ends, else none where one is due."""
+    """Every truncation of some further bytes, with each header: good where a structure ends, else none where one is due."""
     while True:
-        board = some_writable(rnd, some_others(rnd, 3, 0.3))
-        request, start = asked(board), board.at(2) + 0x60
-        ends = [board.at(k) + len(part) for k, part in enumerate(board.parts)]
-        signed = bytes(board.parts[-1][:8]) == PROMSIG
-        for n in cut_points(rnd, len(request.further)) + [end - start for end in ends[2:]]:
-            k = sum(end <= start + n for end in ends)
-            if start + n not in ends:
+        boards = [some_writable(rnd, some_others(rnd, 3, 0.3), header=h) for h in HEADERS]
+        points = ((board, n) for board in boards for n in [*range(board.ends()[2], board.end() + 1), *board.ends()[2:]])
+        for board, n in shuffled(rnd, points):  # StructLen
+            request, ends = asked(board), board.ends()
+            k, signed = sum(end <= n for end in ends), bytes(board.parts[-1][:8]) == PROMSIG
+            if n not in ends:
                 number, place = 23, board.at(k)
             else:
                 number, place = (45, board.at(board.last())) if signed and k == len(ends) else (0, 0)
-            yield due(rnd, request._replace(further=request.further[:n]), number, place)
+            yield due(rnd, request._replace(further=request.further[:n - ends[2]]), number, place)
 
 
 def mutated(rnd):
     """A good request with a byte changed, or in the parts of any length taken out or put in."""
     while True:
         request = asked(some_writable(rnd, some_others(rnd)))
-        part = rnd.choice(Request._fields + ("further",) * 3)
+        part = rnd.choice(Request._fields[1:] + ("further",) * 3)
         data = bytearray(getattr(request, part))
         k = rnd.randrange(len(data) or 1)
         byte = bytes([rnd.choice([rnd.randrange(256), rnd.choice(b"\0\1\2\x10\x20$")])])
@@ -452,36 +489,51 @@ def random_parts(rnd):
     while True:
         request = asked(some_writable(rnd))
         records = b"".join(some_label(rnd) + rnd.randbytes(1) for _ in range(rnd.randint(0, 4))) + rnd.randbytes(rnd.choice([0, 0, 3]))
-        other = Request(rnd.randbytes(4), some_label(rnd) + rnd.randbytes(13), records, rnd.randbytes(60) + bytes([rnd.choice([0, 1, 2])]),
+        other = Request(bytes([rnd.choice(HEADERS)]), rnd.randbytes(4), some_label(rnd) + rnd.randbytes(13), records,
+                        rnd.randbytes(60) + bytes([rnd.choice([0, 1, 2])]),
                         bytes(rnd.choice(b"$\0\0\0\x10\x20") for _ in range(rnd.choice([0, 16, 17, 40]))))
         often = rnd.choice([0.3, 0.6, 1])
         request = Request(*(b if rnd.random() < often else a for a, b in zip(request, other)))
         yield answered(request, rnd.choice([any_room(rnd)] + [size_of(request)] * 3), None)
 
 
-def paper_cases(_):
-    """Cases 12 and 13 of the build paper, and what is beside them; two records that are both labelled top1."""
-    case = asked(plain())
+# case 13 with the short header, every byte as it must be: the map at 20h, the board at 70h, StructLen D0h
+CASE_13_SHORT = bytes.fromhex("""
+24 45 65 70 72 6F 6D 24 01 00 00 00 20 00 00 00 D0 00 00 00 78 8F 3F EB D0 00 00 00 04 00 00 00
+24 45 65 70 72 4D 61 70 01 00 00 00 50 00 00 00 72 69 67 24 00 00 00 00 00 00 00 00 00 00 00 00
+00 10 00 00 20 00 00 10 00 00 00 01 02 00 00 00
+74 6F 70 31 24 00 00 00 00 00 00 00 00 00 00 00 20 00 00 00 00 00 00 00 50 00 00 00 00 00 00 00
+24 42 72 64 49 6E 66 6F 01 00 00 00 60 00 00 00 47 77 65 6A 6C 75 73 61 00 00 00 00 00 00 00 00
+72 69 67 00 00 00 00 00 00 00 00 00 00 00 00 00 30 30 30 31 00 00 00 00 00 00 00 00 00 00 00 00
+01 00 00 00 02 00 00 00 03 00 00 00 00 00 00 00 00 00 00 00 00 00 00 00 00 00 00 00 00 00 00 00""")
+
+
+def paper_cases():
+    """Cases 12 and 13 of the build paper with each header, and what is beside them; two records that are both labelled top1."""
     sig = structure(PROMSIG, le(3, 2) + bytes(14) + bytes(range(32)))
-    while True:
-        yield 0xE0, case, written(0xE0, plain().image())
-        yield 0xE2, case, written(0xE2, plain().image())
-        yield 0xDF, case, refused(0xDF, 41, 0)
+    yield 0xE0, asked(plain()), written(0xE0, plain().image())
+    yield 0xD0, asked(plain(header=SHORT)), written(0xD0, CASE_13_SHORT)
+    for h in HEADERS:
+        end = h + 0xB0
+        case, image = asked(plain(header=h)), plain(header=h).image()
+        yield end + 2, case, written(end + 2, image)
+        yield end - 1, case, refused(end - 1, 41, 0)
         yield 0, case, refused(0, 41, 0)
-        yield 4096, asked(plain(122)), written(4096, plain(122).image())
-        yield 4128, asked(plain(123)), refused(4128, 28, 0xFC0)
-        yield 0x120, asked(plain(1, [sig])), refused(0x120, 45, 0xE0)
-        yield 0x100, asked(plain(2, labels=(b"top1", b"top1"))), refused(0x100, 34, 0x80)
+        yield h + 0xFD0, asked(plain(122, header=h)), written(h + 0xFD0, plain(122, header=h).image())
+        yield h + 0xFF0, asked(plain(123, header=h)), refused(h + 0xFF0, 28, h + 0xF90)
+        yield 0x120, asked(plain(1, [sig], header=h)), refused(0x120, 45, end)
+        yield 0x100, asked(plain(2, labels=(b"top1", b"top1"), header=h)), refused(0x100, 34, h + 0x50)
 
 
 # a group, how many requests it gives in a turn, and in which turns (every so many)
-GROUPS = [(good_records, 5, 1), (good_further, 8, 1), (rooms, 6, 1), (rule_46, 6, 1), (rule_40, 1, 1), (rule_45, 7, 1), (rule_23, 4, 1),
-          (rule_26_none, 1, 1), (rule_34, 4, 1), (given_fields, 7, 1), (several, 9, 1), (record_truncations, 4, 1),
-          (further_truncations, 8, 1),
+GROUPS = [(good_records, 5, 1), (good_further, 8, 1), (each_header, 4, 1), (rooms, 6, 1), (rule_46, 6, 1), (rule_40, 1, 1),
+          (rule_45, 7, 1), (rule_23, 4, 1), (rule_26_none, 1, 1), (rule_34, 4, 1), (given_fields, 7, 1), (several, 9, 1),
+          (record_truncations, 4, 1), (further_truncations, 8, 1),
           (made_of(board_images.good_mixed), 4, 1), (made_of(board_images.good_each_kind), 3, 1),
           (made_of(board_images.good_lengths), 2, 1), (made_of(board_images.good_unknown), 2, 1),
           (made_of(board_images.good_near), 2, 1), (made_of(board_images.good_many), 1, 2),
-          (made_of(board_images.good_names), 2, 1), (made_of(board_images.rule_21, True), 1, 1), (made_of(board_images.rule_23), 5, 1),
+          (made_of(board_images.good_names), 2, 1), (made_of(board_images.rule_21, True), 2, 1),
+          (made_of(board_images.damaged_header, True), 3, 1), (made_of(board_images.rule_23), 5, 1),
           (made_of(board_images.rule_24), 4, 1), (made_of(board_images.rule_25), 3, 1), (made_of(board_images.rule_26, True), 2, 1),
           (made_of(board_images.rule_27, True), 2, 1), (made_of(board_images.rule_28), 1, 2), (made_of(board_images.rule_29), 4, 1),
           (made_of(board_images.rule_30_labels), 5, 1), (made_of(board_images.rule_30_fields, True), 5, 1),
@@ -505,8 +557,8 @@ def in_turn(seed, groups):
 
 def requests(seed):
     """All requests, for ever: (room, request, the answer or None)."""
-    for room, request, answer in itertools.chain(itertools.islice(paper_cases(None), 8), in_turn(seed, GROUPS)):
-        assert (len(request.version), len(request.fields), len(request.names)) == (4, 29, 61)
+    for room, request, answer in itertools.chain(paper_cases(), in_turn(seed, GROUPS)):
+        assert [len(part) for part in request[:3]] == [1, 4, 29] and len(request.names) == 61 and request.header[0] in HEADERS
         assert max(room, len(request.records), len(request.further)) <= MOST
         yield room, request, answer
 
@@ -520,25 +572,32 @@ def line(rnd, room, request):
 
 
 def case_parts(k=None, part=b""):
-    """The six parts of a line for case 13, part k replaced."""
+    """The seven parts of a line for case 13, part k replaced."""
     out = [b"224"] + [part.hex(" ").upper().encode() for part in asked(plain())]
     return out if k is None else out[:k] + [part] + out[k + 1:]
 
 
+# what HEADER may not be
+OTHER_HEADERS = (b"", b" ", b"00", b"02", b"03", b"10", b"1F", b"21", b"2F", b"31", b"32", b"40", b"48", b"A0", b"FF", b"2", b"3",
+                 b"20 30", b"30 30", b"20 20", b"2030", b"20 00", b"00 20", b"20 00 00 00", b"2 0", b"020", b"3 00", b"20h", b"0x20",
+                 b"+20", b"-30", b"zz", b"2z", b"20,")
+
+
 def other_lines():
     """Lines that are no requests."""
-    case, bad = case_parts(), []
-    for k in (1, 2, 4):  # a byte short, a byte more, none, half a byte
+    case, bad = case_parts(), [(1, part) for part in OTHER_HEADERS]
+    for k in (2, 3, 5):  # a byte short, a byte more, none, half a byte
         bad += [(k, part) for part in (case[k][:-3], case[k] + b" 00", b"", case[k][:-1], case[k] + b" 0")]
     bad += [(0, room) for room in (b"", b"-1", b"+224", b"x", b"224x", b"0xE0", b"2 24", b"22.4", b"65601", b"655360", b"4294967520",
                                    b"18446744073709551840", b"9" * 40, b"\xb2", b"\t224")]
     digits = (b"0", b"00 0", b"0 0", b"000", b"G0", b"0g", b"0x00", b"00,00", b"00:00", b"00h", b"/0", b"0:", b"@0", b"0`", b"\x00",
               b"\xff\xff", b"00\t00", b"00\r", b"-1", b" " * 100 + b"0", b"00" * (MOST + 1))
-    bad += [(k, part) for k in (3, 5) for part in digits]
+    bad += [(k, part) for k in (4, 6) for part in digits]
     out = [b"; ".join(case_parts(*change)) for change in bad]
-    out += [b";".join(case[:k]) for k in range(1, 6)] + [b";".join(case) + b";", b";".join(case) + b"; ", b";".join(case + [b"00"])]
-    return out + [b"; ".join(case).replace(b";", b":"), b" ".join(case), b",".join(case), b" ", b"    ", b";", b";;;;;", b" ; ; ; ; ; ",
-                  b"0;;;;;", b"not a request", b"\0", b"\r", b"\t", b"12; 10 01 00; 74 6F 70 B1"]
+    out += [b";".join(case[:k]) for k in range(1, 7)] + [b";".join(case) + b";", b";".join(case) + b"; ", b";".join(case + [b"00"])]
+    out += [b";".join(case[:k] + case[k + 1:]) for k in range(6)] + [b";".join(case[:k] + case[k - 1:]) for k in range(1, 7)]
+    return out + [b"; ".join(case).replace(b";", b":"), b" ".join(case), b",".join(case), b" ", b"    ", b";", b";;;;;", b";;;;;;",
+                  b" ; ; ; ; ; ; ", b"0;;;;;", b"0;;;;;;", b"not a request", b"\0", b"\r", b"\t", b"12; 10 01 00; 74 6F 70 B1"]
 
 
 OTHER_LINES = other_lines()
@@ -566,14 +625,26 @@ def some_list(rnd):
     return rnd.choice([FULL] * 4 + [0, FULL - (1 << rnd.randint(8, 16)), rnd.getrandbits(17), rnd.getrandbits(17), rnd.getrandbits(32)])
 
 
-def twins(rnd, versions=None, **over):
+def twins(rnd, versions=None, headers=(None, None), **over):
     """Two good boards of which all that counts is alike, and of the rest nothing need be."""
-    pair = [some(rnd, **over) for _ in range(2)]
+    pair = [some(rnd, header=h, **over) for h in headers]
     for board, version in zip(pair, versions or (some_number(rnd, 4), some_number(rnd, 4))):
         board.parts[0][VERSION] = le(version, 4)
     for p in COUNTED:
         pair[1].parts[2][p] = pair[0].parts[2][p]
     return pair
+
+
+def broken_header(rnd, board):
+    """An image that is refused for its header, and with what: cut, with another Length, another StructLen or a wrong check field."""
+    h, image = board.header(), board.image()
+    other = sum(HEADERS) - h
+    return rnd.choice([
+        (image[:rnd.randrange(SHORT)], (20, 0)), (image[:rnd.randrange(SHORT, board.end())], (22, 0x10)),
+        (board.image((12, le(rnd.choice(NO_HEADER), 4))), (21, 0)), (board.image((12, le(other, 4))), (23, other)),
+        (board.image((0x10, le(rnd.choice([h - 1, board.end() + 1]), 4))), (22, 0x10)), (board.image((0x10, le(h, 4))), (25, h)),
+        (with_crc(image, crc_of(image, board.summed()) ^ 1 << rnd.randrange(32)), (27, 0x14)),
+        (board.image((0x18, le(board.summed() ^ 0x10, 4))), (27, 0x18))])
 
 
 def chosen_of(rnd, pair, eeprom, mask=None):
@@ -594,13 +665,16 @@ def choice_versions(rnd):
 
 
 def choice_copies(rnd):
-    """An image and its copy with another Version, another serial, another map or other structures behind; or with no change at all."""
-    for part in cycle(rnd, ["nothing", "Version", "BrdSerial", "map", "further", "none further", "reserved"]):
+    """An image and its copy with another Version, the other header, another serial, another map or other structures behind; or with no
+    change at all."""
+    for part in cycle(rnd, ["nothing", "Version", "header", "BrdSerial", "map", "further", "none further", "reserved"]):
         board = some(rnd)
         copy = Board([bytearray(p) for p in board.parts])
         block = int.from_bytes(board.parts[1][0x20:0x24], "little")
         if part == "BrdSerial":
             copy.parts[2][0x30:0x40] = some_name(rnd)
+        elif part == "header":
+            copy.parts[0] = resized(copy.parts[0], sum(HEADERS) - copy.header())
         elif part == "map":
             copy.parts[1] = some_map(rnd)
         elif part == "further":
@@ -614,6 +688,22 @@ def choice_copies(rnd):
             copy.parts[0][VERSION] = le(some_number(rnd, 4), 4)
         pair = rnd.sample([board, copy], 2)
         yield chosen_of(rnd, pair, by_version(pair[1]) > by_version(pair[0]))
+
+
+def choice_headers(rnd):
+    """Each header on each side, whatever the Versions: the same board, another one, and each of accepted and refused."""
+    variants = [(a, b, part) for a in HEADERS for b in HEADERS for part in ("same", "same", "same", "same", "other", 0, 1, 2)]
+    for a, b, part in cycle(rnd, variants):
+        pair = twins(rnd, rnd.choice(VERSIONS), headers=(a, b))
+        if part in ("same", "other"):
+            if part == "other":
+                pair[1].parts[2][rnd.choice(COUNTED[:-1])] ^= 1 << rnd.randrange(8)
+            yield chosen_of(rnd, pair, part == "same" and by_version(pair[1]) > by_version(pair[0]))
+            continue
+        broken = [broken_header(rnd, board) for board in pair]  # part is the side that is refused, or 2 for both
+        images = [broken[side][0] if part in (side, 2) else lend(rnd, board.image()) for side, board in enumerate(pair)]
+        said = ("eeprom %d" % pair[1].end(), "firmware %d" % pair[0].end(), "neither %d %d" % broken[0][1])[part]
+        yield some_list(rnd), *images, said
 
 
 def choice_fields(rnd):
@@ -739,7 +829,7 @@ def choice_lent(rnd):
             if refusals[side]:
                 n = {"empty": 0, "cut": rnd.randrange(len(images[side]))}.get(part, 65537)
                 images[side] = images[side][:n].ljust(n, b"\0")
-                said = said or "neither %d %d" % ((22, 0x10) if part == "cut" and n >= 0x30 else (20, 0))
+                said = said or "neither %d %d" % ((22, 0x10) if part == "cut" and n >= SHORT else (20, 0))
             elif part == "65536":
                 images[side] = images[side].ljust(LONGEST, b"\xff")
         if not all(refusals):
@@ -750,7 +840,7 @@ def choice_lent(rnd):
 
 def counted(image):
     """What counts in an accepted image: the bytes of its board, and its Version."""
-    at = front(records_of(image)) - 0x60
+    at = lies(image).board()
     return [image[at + p] for p in COUNTED], int.from_bytes(image[VERSION], "little")
 
 
@@ -786,27 +876,27 @@ def choice_mutated(rnd):
         yield some_list(rnd), *images, None
 
 
-def paper_pairs(_):
-    """Case 11 of the build paper."""
-    three, four, serial = plain(version=3), plain(version=4), plain(version=4, names=(b"Gwejlusa", b"rig", b"0002"))
-    other = plain(version=4)
-    other.parts[2][0x48] ^= 1
-    while True:
-        yield FULL, three.image(), four.image(), "eeprom 224"
-        yield FULL, four.image(), four.image(), "firmware 224"
-        yield FULL, three.image(), serial.image(), "eeprom 224"
-        yield FULL, three.image(), other.image(), "firmware 224"
+def paper_pairs():
+    """Case 11 of the build paper, with each header on each side."""
+    for a, b in itertools.product((LONG, SHORT), repeat=2):
+        three, same, four = plain(version=3, header=a), plain(version=4, header=a), plain(version=4, header=b)
+        serial, other = plain(version=4, names=(b"Gwejlusa", b"rig", b"0002"), header=b), plain(version=4, header=b)
+        other.parts[2][0x48] ^= 1
+        yield FULL, three.image(), four.image(), "eeprom %d" % (b + 0xB0)
+        yield FULL, same.image(), four.image(), "firmware %d" % (a + 0xB0)
+        yield FULL, three.image(), serial.image(), "eeprom %d" % (b + 0xB0)
+        yield FULL, three.image(), other.image(), "firmware %d" % (a + 0xB0)
 
 
 # as GROUPS
-PAIRS = [(choice_versions, 8, 1), (choice_copies, 6, 1), (choice_fields, 14, 1), (choice_places, 3, 1), (choice_one, 8, 1),
-         (choice_neither, 5, 1), (choice_lists, 9, 1), (choice_labels, 3, 1), (choice_signed, 2, 1), (choice_lent, 2, 1),
-         (choice_any, 6, 1), (choice_mutated, 5, 1)]
+PAIRS = [(choice_versions, 8, 1), (choice_headers, 8, 1), (choice_copies, 7, 1), (choice_fields, 14, 1), (choice_places, 3, 1),
+         (choice_one, 8, 1), (choice_neither, 5, 1), (choice_lists, 9, 1), (choice_labels, 3, 1), (choice_signed, 2, 1),
+         (choice_lent, 2, 1), (choice_any, 6, 1), (choice_mutated, 5, 1)]
 
 
 def pairs(seed):
     """All pairs, for ever: (list, firmware, EEPROM, the line that says which is chosen, or None)."""
-    yield from itertools.islice(paper_pairs(None), 4)
+    yield from paper_pairs()
     yield from in_turn(seed, PAIRS)
 
 
@@ -826,7 +916,8 @@ def case_with(part, p, byte):
 
 
 def gate_requests():
-    """Cases 12 and 13, what is beside them, records of one label, each refusal but 40 (its line would be too long), several at once."""
+    """Cases 12 and 13 with each header, what is beside them, records of one label, each refusal but 40 (its line would be too long),
+    several at once."""
     case, fan, bare = asked(plain()), structure(b"$Fan", b"\1\2\3"), structure(b"$Fan", b"")
     fpga = structure(FPGA, b"\x03\x01\x02" + bytes(13) + b"x")
     gpio = structure(GPIO, bytes(16) + board_images.gpio_record(labelled(b"lamp"), 0x1C0, 0xFFFFFFFE, 1, 4, 1))
@@ -835,6 +926,13 @@ def gate_requests():
     kinds = plain(2, [fpga, gpio, fan, structure(LOGO, b"\xff" * 5, 2)])
     out = [(room, case) for room in (0xE0, 0xE2, 0xDF, 0)] + [(4096, asked(plain(122))), (4128, asked(plain(123)))]
     out += [(kinds.end() + d, asked(kinds)) for d in (0, 1, -1)]
+    short = asked(plain(header=SHORT))
+    out += [(room, short) for room in (0xD0, 0xD2, 0xCF, 0)]
+    out += [(n, asked(board)) for n, board in ((4080, plain(122, header=SHORT)), (4112, plain(123, header=SHORT)),
+                                               (0x160, plain(2, [fpga, gpio, fan], header=SHORT)), (0x110, plain(1, [sig], header=SHORT)))]
+    out += [(256, short._replace(**{part: data})) for part, data in (
+        ("records", b""), ("records", case.records * 2), ("fields", case.fields[:-1] + b"\4"), ("names", case.names[:-1] + b"\2"),
+        ("further", bytes(16)), ("further", bytes(structure(LOGO, bytes(15) + b"\1"))))]
     twice = asked(plain(2, labels=(b"top1", b"top1")))
     out += [(0x100, twice), (0xFF, twice), (0x100, twice._replace(records=twice.records + b"\0"))]
     out += [(0x120, asked(plain(3, labels=texts))) for texts in ((b"top1", b"top2", b"top1"), (b"", b"", b"rig"), (b"", b" ", b"rig"))]
@@ -862,17 +960,19 @@ def gate_lines():
         out.append(b"; ".join([b"%d" % room] + [part.hex(*" " * short).upper().encode() for part in request]))
     case = case_parts()
     out += [b";".join(part.replace(b" ", b"").lower() for part in case), b" 0224  ;  " + b"  ;  ".join(case[1:]) + b"  ", b""]
-    changes = [(0, b""), (0, b"65601"), (0, b"x"), (1, case[1][:-3]), (1, case[1] + b" 00"), (2, case[2][:-3]), (2, case[2] + b" 00"),
-               (4, case[4][:-3]), (4, case[4] + b" 00"), (3, case[3] + b" 0"), (5, b"0x00"), (5, b"24\t24")]
+    changes = [(0, b""), (0, b"65601"), (0, b"x"), (4, case[4] + b" 0"), (6, b"0x00"), (6, b"24\t24")]
+    changes += [(1, part) for part in (b"", b"00", b"10", b"21", b"2F", b"31", b"20 30", b"2", b"zz")]
+    changes += [(k, part) for k in (2, 3, 5) for part in (case[k][:-3], case[k] + b" 00")]
     out += [b"; ".join(case_parts(*change)) for change in changes]
-    return b"\n".join(out + [b"; ".join(case[:5]), b"; ".join(case) + b";", b" ", b"not a request", b"; ".join(case)])
+    lines = (b"; ".join(case[:6]), b"; ".join(case[:1] + case[2:]), b"; ".join(case) + b";", b" ", b"not a request", b"; ".join(case))
+    return b"\n".join([*out, *lines])
 
 
 def gate_pairs():
-    """Case 11 and what is beside it; one or both refused; records of one label; lists with which one is refused; lent past StructLen; a
-    record that is cut."""
-    def versioned(version, *others, records=1):
-        return plain(records, others, version=version).image()
+    """Case 11 with each header on each side, and what is beside it; one or both refused; records of one label; lists with which one is
+    refused; lent past StructLen; a record that is cut."""
+    def versioned(version, *others, records=1, header=LONG):
+        return plain(records, others, version=version, header=header).image()
 
     def changed(p, bits):  # a byte of the board
         board = plain(version=4)
@@ -881,7 +981,9 @@ def gate_pairs():
     three, four, sig = versioned(3), versioned(4), structure(PROMSIG, le(1, 2) + bytes(14) + bytes(16))
     fpga, logo = versioned(9, structure(FPGA, b"\5" + bytes(15))), versioned(8, structure(LOGO, b"\1" * 16))
     fpga_bit, logo_bit = (1 << 8 + LISTED.index(kind) for kind in (FPGA, LOGO))
-    out = [(mask, a, b) for mask, a, b, _ in itertools.islice(paper_pairs(None), 4)] + [(FULL, four, three)]
+    short = versioned(4, header=SHORT)
+    out = [(mask, a, b) for mask, a, b, _ in paper_pairs()] + [(FULL, four, three), (FULL, short, three), (FULL, short + b"$", four)]
+    out += [(FULL, short[:SHORT], four), (FULL, four, short[:SHORT - 1]), (FULL, short[:SHORT], four[:LONG - 1]), (0, three[:LONG], short)]
     differ = ((0x10, 0x20), (0x2F, 0x01), (0x40, 0x01), (0x47, 0x80), (0x4B, 0x01), (0x4C, 0x01), (0x3F, 0x01))  # the last is BrdSerial
     out += [(0, three, changed(*change)) for change in differ]
     out += [(FULL, versioned(a), versioned(b)) for a, b in ((0x7FFFFFFF, 0x80000000), (0x80000000, 1), (255, 256))]

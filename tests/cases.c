@@ -1,6 +1,6 @@
 /*
- * The cases of paper 01 through C: what the functions of chip/chip.h must answer, as the paper has it; the same label twice, as in paper 02; and the version.
- * Exit: 0 if they do, 1 at the first that does not.
+ * The cases of paper 01 through C: what the functions of chip/chip.h must answer, as the paper has it; the same label twice, and both headers, as in paper 02;
+ * and the version. Exit: 0 if they do, 1 at the first that does not.
  */
 #include <inttypes.h>
 #include <stdio.h>
@@ -9,7 +9,7 @@
 
 #include "../chip/chip.h"
 
-enum { FULL = CHIP_KINDS_FULL, ROOM = 8192, HEADER = 0x30, MAP = 0x30, RECORD = 0x20, LABEL = 0x10, BOARD = 0x60 };
+enum { FULL = CHIP_KINDS_FULL, ROOM = 8192, SHORT = 0x20, LONG = 0x30, MAP = 0x30, RECORD = 0x20, LABEL = 0x10, BOARD = 0x60 };
 
 #define ACCEPTED(value) ((uint64_t)(value))
 #define REFUSED(number, place) ((uint64_t)(number) << 32 | (place))
@@ -118,17 +118,17 @@ static void seal(struct board *b) {
     put(b->bytes + 0x14, crc32(b->bytes, b->length));
 }
 
-/* the header, a map of this many records, whose labels are top1, top2 and so on, and the board structure */
-static struct board *board(struct board *b, uint32_t records, uint32_t version) {
+/* a header of this Length, a map of this many records, whose labels are top1, top2 and so on, and the board structure */
+static struct board *board(struct board *b, uint32_t header, uint32_t records, uint32_t version) {
     uint32_t block = 0x1000;
     memset(b, 0, sizeof *b);
-    b->place = HEADER + MAP + RECORD * records;
+    b->place = header + MAP + RECORD * records;
     b->length = b->place + BOARD;
-    put_head(b->bytes, "$Eeprom$", HEADER);
+    put_head(b->bytes, "$Eeprom$", header);
     put(b->bytes + 0x10, b->length);
     put(b->bytes + 0x18, b->length);
     put(b->bytes + 0x1C, version);
-    uint8_t *map = b->bytes + HEADER;
+    uint8_t *map = b->bytes + header;
     put_head(map, "$EeprMap", MAP + RECORD * records);
     memcpy(map + 0x10, "top1$", 5);
     put(map + 0x20, block);
@@ -151,8 +151,8 @@ static chip_answer judge_board(struct board *b) {
 /* The choice where the EEPROM image has another byte at a place of its board structure; no place: 0. */
 static chip_answer choice(uint32_t firmware, uint32_t eeprom, uint32_t place) {
     static struct board a, b;
-    board(&a, 1, firmware);
-    board(&b, 1, eeprom);
+    board(&a, LONG, 1, firmware);
+    board(&b, LONG, 1, eeprom);
     if (place) {
         b.bytes[b.place + place] ^= 0x01;
         seal(&b);
@@ -162,31 +162,31 @@ static chip_answer choice(uint32_t firmware, uint32_t eeprom, uint32_t place) {
 
 static void board_cases(void) {
     static struct board b;
-    is("10", judge_board(board(&b, 1, 1)), ACCEPTED(3));
-    memset(b.bytes + HEADER + 0x10, 0, 16);
+    is("10", judge_board(board(&b, LONG, 1, 1)), ACCEPTED(3));
+    memset(b.bytes + LONG + 0x10, 0, 16);
     seal(&b);
     is("10", judge_board(&b), REFUSED(30, 0x40));
     is("11", choice(3, 4, 0), EEPROM(0xE0));
     is("11", choice(4, 4, 0), ACCEPTED(0xE0));
     is("11, BrdSerial", choice(3, 4, 0x30), EEPROM(0xE0));
     is("11, EcId", choice(3, 4, 0x48), ACCEPTED(0xE0));
-    is("12", judge_board(board(&b, 122, 1)), ACCEPTED(3));
+    is("12", judge_board(board(&b, LONG, 122, 1)), ACCEPTED(3));
     is("12", chip_board_choice(b.bytes, b.length, NULL, 0, FULL), ACCEPTED(0x1000));
-    board(&b, 123, 1);
+    board(&b, LONG, 123, 1);
     is("12", judge_board(&b), REFUSED(28, 0xFC0));
-    board(&b, 1, 1);
+    board(&b, LONG, 1, 1);
     b.bytes[0x80 + 0x4C] = 2; /* BoardType: the board structure is at 80h */
     seal(&b);
     is("13", judge_board(&b), REFUSED(31, 0x80 + 0x4C));
-    is("13", chip_board_choice(NULL, 0, board(&b, 1, 1)->bytes, ROOM, FULL), EEPROM(0xE0));
+    is("13", chip_board_choice(NULL, 0, board(&b, LONG, 1, 1)->bytes, ROOM, FULL), EEPROM(0xE0));
 }
 
 /* Two records labelled top1: the second label is told, with every list and by the choice. */
 static void same_label(void) {
     static struct board a, b;
-    const uint32_t first = HEADER + MAP, second = first + RECORD;
-    board(&a, 1, 1);
-    is("R-2", judge_board(board(&b, 2, 2)), ACCEPTED(3));
+    const uint32_t first = LONG + MAP, second = first + RECORD;
+    board(&a, LONG, 1, 1);
+    is("R-2", judge_board(board(&b, LONG, 2, 2)), ACCEPTED(3));
     memcpy(b.bytes + second, b.bytes + first, LABEL);
     seal(&b);
     is("R-2", judge_board(&b), REFUSED(34, second));
@@ -194,6 +194,74 @@ static void same_label(void) {
     is("R-2", chip_board_choice(a.bytes, a.length, b.bytes, b.length, FULL), ACCEPTED(0xE0));
     is("R-2", chip_board_choice(b.bytes, b.length, a.bytes, a.length, FULL), EEPROM(0xE0));
     is("R-2", chip_board_choice(b.bytes, b.length, b.bytes, b.length, FULL), REFUSED(34, second));
+}
+
+/* The judge on the first bytes of a board of one record, with this header, Length and StructLen. */
+static chip_answer judge_front(uint32_t header, uint32_t length, uint32_t end, size_t lent) {
+    static struct board b;
+    board(&b, header, 1, 4);
+    put(b.bytes + 0x0C, length);
+    put(b.bytes + 0x10, end);
+    seal(&b);
+    return chip_board_judge(b.bytes, lent, FULL);
+}
+
+/* The choice between a firmware image and an EEPROM image of one board, with these headers and Versions. */
+static chip_answer choice_of(uint32_t firmware_header, uint32_t firmware, uint32_t eeprom_header, uint32_t eeprom) {
+    static struct board a, b;
+    board(&a, firmware_header, 1, firmware);
+    board(&b, eeprom_header, 1, eeprom);
+    return chip_board_choice(a.bytes, a.length, b.bytes, b.length, FULL);
+}
+
+/* The short header beside the long one: with case 13 the map is at 20h, the board structure at 70h, and StructLen is D0h. */
+static void both_headers(void) {
+    static struct board b;
+    is("R-6, 13", judge_front(SHORT, SHORT, 0xD0, 0xD0), ACCEPTED(3));
+    is("R-6, 13", judge_front(LONG, LONG, 0xE0, 0xE0), ACCEPTED(3));
+    board(&b, SHORT, 1, 4);
+    b.bytes[0x70 + 0x4C] = 2; /* BoardType: the board structure is at 70h */
+    seal(&b);
+    is("R-6, 13", judge_board(&b), REFUSED(31, 0x70 + 0x4C));
+    board(&b, LONG, 1, 4);
+    b.bytes[LONG - 1] = 1;
+    seal(&b);
+    is("R-6, reserved", judge_board(&b), REFUSED(32, LONG - 1));
+
+    is("R-6, 1Fh lent", judge_front(SHORT, SHORT, 0xD0, 0x1F), REFUSED(20, 0));
+    is("R-6, 1Fh lent", judge_front(LONG, LONG, 0xE0, 0x1F), REFUSED(20, 0));
+    is("R-6, 20h lent", judge_front(SHORT, SHORT, 0xD0, 0x20), REFUSED(22, 16));
+    is("R-6, 20h lent", judge_front(SHORT, SHORT, 0x20, 0x20), REFUSED(25, 32));
+    is("R-6, 20h lent", judge_front(LONG, LONG, 0xE0, 0x20), REFUSED(22, 16));
+    is("R-6, 20h lent", judge_front(LONG, LONG, 0x20, 0x20), REFUSED(22, 16));
+    is("R-6, 2Fh lent", judge_front(LONG, LONG, 0xE0, 0x2F), REFUSED(22, 16));
+    is("R-6, 2Fh lent", judge_front(LONG, LONG, 0x2F, 0x2F), REFUSED(22, 16));
+    is("R-6, 2Fh lent", judge_front(LONG, 0x2F, 0x2F, 0x2F), REFUSED(21, 0));
+
+    is("R-6, StructLen", judge_front(SHORT, SHORT, 0x1F, 0xD0), REFUSED(22, 16));
+    is("R-6, StructLen", judge_front(SHORT, SHORT, 0x20, 0xD0), REFUSED(25, 32));
+    is("R-6, StructLen", judge_front(SHORT, SHORT, 0x21, 0xD0), REFUSED(23, 32));
+    is("R-6, StructLen", judge_front(SHORT, SHORT, 0xD1, 0xD0), REFUSED(22, 16));
+    is("R-6, StructLen", judge_front(LONG, LONG, 0x20, 0xE0), REFUSED(22, 16));
+    is("R-6, StructLen", judge_front(LONG, LONG, 0x2F, 0xE0), REFUSED(22, 16));
+    is("R-6, StructLen", judge_front(LONG, LONG, 0x30, 0xE0), REFUSED(25, 48));
+
+    is("R-6, Length", judge_front(LONG, SHORT, 0xE0, 0xE0), REFUSED(23, 32));
+    is("R-6, Length", judge_front(SHORT, LONG, 0xD0, 0xD0), REFUSED(23, 48));
+    is("R-6, Length", judge_front(SHORT, 0x10, 0xD0, 0xD0), REFUSED(21, 0));
+    is("R-6, Length", judge_front(SHORT, 0x21, 0xD0, 0xD0), REFUSED(21, 0));
+    is("R-6, Length", judge_front(SHORT, 0x10020, 0xD0, 0xD0), REFUSED(21, 0));
+
+    is("R-6, 12", judge_board(board(&b, SHORT, 122, 1)), ACCEPTED(3));
+    is("R-6, 12", chip_board_choice(b.bytes, b.length, NULL, 0, FULL), ACCEPTED(0xFF0));
+    is("R-6, 12", judge_board(board(&b, SHORT, 123, 1)), REFUSED(28, 0xFB0));
+
+    is("R-6, 11", choice_of(LONG, 3, SHORT, 4), EEPROM(0xD0));
+    is("R-6, 11", choice_of(LONG, 4, SHORT, 4), ACCEPTED(0xE0));
+    is("R-6, 11", choice_of(LONG, 4, SHORT, 3), ACCEPTED(0xE0));
+    is("R-6, 11", choice_of(SHORT, 3, LONG, 4), EEPROM(0xE0));
+    is("R-6, 11", choice_of(SHORT, 4, LONG, 4), ACCEPTED(0xD0));
+    is("R-6, 11", choice_of(SHORT, 4, LONG, 3), ACCEPTED(0xD0));
 }
 
 /* ---- the version ---- */
@@ -213,7 +281,8 @@ int main(void) {
     tiny_cases();
     board_cases();
     same_label();
+    both_headers();
     version();
-    printf("the papers' cases 1 to 14, the same label twice and the version through C, %u answers as they must be\n", calls);
+    printf("the papers' cases 1 to 14, the same label twice, both headers and the version through C, %u answers as they must be\n", calls);
     return 0;
 }

@@ -76,7 +76,12 @@ def formats(desk):
     """The first byte tells the format; where it does not, nothing is guessed."""
     desk.chip(DONE, "check", "tiny", out="accepted 2 items\n")
     desk.chip(DONE, "check", "board", out="accepted 3 items\n")
-    desk.chip(REFUSED, "check", "--format", "board", "tiny", out="refused 20 at 0 (0h): fewer than 48 bytes, or more than 65536\n")
+    desk.chip(DONE, "check", "short", out="accepted 3 items\n")
+    desk.chip(REFUSED, "check", "--format", "board", "tiny", out="refused 20 at 0 (0h): fewer than 32 bytes, or more than 65536\n")
+    for name, header in (("short", board_images.SHORT), ("board", board_images.LONG)):
+        desk.chip(REFUSED, "check", "-", given=desk.get(name)[:31], out="refused 20 at 0 (0h): fewer than 32 bytes, or more than 65536\n")
+        desk.chip(REFUSED, "check", "-", given=desk.get(name)[:header],
+                  out="refused 22 at 16 (10h): StructLen is below the header's Length or above the number of bytes\n")
     desk.chip(REFUSED, "check", "--format", "tiny", "board", out="refused 2 at 0 (0h): the first byte is not 56h\n")
     for command in ("check", "list", "name"):
         desk.chip(USAGE, command, "other", says="other: the first byte is 00h, neither 56h (tiny) nor 24h (board); type --format")
@@ -117,8 +122,17 @@ def known(desk):
 
 
 def choices(desk):
-    """Which of two images, in words and in one; the chosen part as a file."""
+    """Which of two images, in words and in one, with either header; the chosen part as a file."""
     desk.chip(DONE, "choose", "board", "board", out="the firmware image, board: 224 bytes\n")
+    desk.chip(DONE, "choose", "board", "short", out="the firmware image, board: 224 bytes\n")
+    desk.chip(DONE, "choose", "short", "board", out="the firmware image, short: 208 bytes\n")
+    for name, header, other in (("later-short", board_images.SHORT, "board"), ("later-long", board_images.LONG, "short")):
+        later = board_images.plain(version=5, header=header).image()
+        desk.put(name, later)
+        desk.chip(DONE, "choose", "-o", "chosen", other, name, out="the EEPROM image, %s: %d bytes\n" % (name, len(later)))
+        desk.chip(DONE, "choose", "--which", name, other, out="firmware\n")
+        if desk.get("chosen") != later:
+            fail("chip choose -o chosen: not the bytes of %s" % name)
     desk.chip(DONE, "choose", "tiny", "long", out="the EEPROM image, long: 224 bytes\n")
     desk.chip(DONE, "choose", "long", "longer", out="the firmware image, long: 224 bytes\n")
     desk.chip(DONE, "choose", "longer", "long", "--which", out="eeprom\n")
@@ -150,6 +164,12 @@ def writes(desk):
         fail("chip write -o: another image, or other permissions")
     board = open("crates/board_write/stdin", "rb").read().splitlines()[0]
     desk.chip(DONE, "write", "-", given=board, out=re.compile(r"24 45 65 70 72 6F 6D 24 01 [0-9A-F ]*\n"))
+    for header, image in ((b"20", board_runs.CASE_13_SHORT), (b"30", board_images.case_13())):
+        desk.chip(DONE, "write", "-", given=b"; ".join(board_runs.case_parts(1, header)), out=image.hex(" ").upper() + "\n")
+    case = board_runs.case_parts()
+    for parts, says in ((board_runs.case_parts(1, b"21"), "not a request"), (case[:1] + case[2:], "no request"), (case + [b""], "no request")):
+        desk.chip(USAGE, "write", "-", given=b"; ".join(parts), says=says)
+    desk.chip(USAGE, "write", "--format", "board", "-", given=b"; ".join(case[:1] + case[2:]), says="not a request")
     twice = board_runs.asked(board_images.plain(2, labels=(b"top1", b"top1")))
     desk.chip(REFUSED, "write", "-", "-o", "never", given=b";".join([b"256", *(part.hex().encode() for part in twice)]),
               says="refused 34 at 128 (80h): two map records have the same label\n")
@@ -242,9 +262,9 @@ def files(desk):
 def try_chip(folder, libraries):
     program = built(os.path.join(folder, "command"), libraries["host"])
     desk = Desk(os.path.join(folder, "desk"), program)
-    board = board_images.case_13()
-    for name, image in (("tiny", named(b"top1")), ("board", board), ("damaged", named(b"top1")[:-1] + b"\0"), ("other", b"\0" * 60), ("empty", b""),
-                        ("long", board.ljust(65536, b"\0")), ("longer", board.ljust(65537, b"\0"))):
+    board, short = board_images.case_13(), board_images.plain(header=board_images.SHORT).image()
+    for name, image in (("tiny", named(b"top1")), ("board", board), ("short", short), ("damaged", named(b"top1")[:-1] + b"\0"), ("other", b"\0" * 60),
+                        ("empty", b""), ("long", board.ljust(65536, b"\0")), ("longer", board.ljust(65537, b"\0"))):
         desk.put(name, image)
     for part in (lists, formats, names, known, choices, writes, outputs, usage, files):
         part(desk)

@@ -21,9 +21,10 @@ def tiny_shown():
 
 
 def board_shown():
-    """Each structure known, those that a list can lack not known too, and records of both kinds."""
-    always = (board_images.EEPROM, board_images.MAP, board_images.BOARD, board_images.PROMSIG)
+    """Each structure known, the header with each Length, those that a list can lack not known too, and records of both kinds."""
+    always = (board_images.MAP, board_images.BOARD, board_images.PROMSIG)
     shown = [(kind, "major") for kind in (*always, *board_images.LISTED)] + [(kind, "unknown") for kind in board_images.LISTED]
+    shown += [(board_images.EEPROM, "Length %d" % length) for length in board_images.HEADERS]
     items = ("%s %s %s" % (call, kind.hex().upper(), what) for call in ("item", "step") for kind, what in shown)
     return (*items, "map MapLabel", "gpio GpioLabel", *("step%s none" % asked for asked in ASKED))
 
@@ -31,7 +32,7 @@ def board_shown():
 # a format: its name in those of programs; the full list, and another one; how many bytes a record has for its list and for its image's
 # length, and a run of records or of requests at most; the numbers of its rules, those of them that ask the list, and those that follow
 # them; the images of a seed, and the requests to its writer; the sources of its reference; the calls by number, and what
-# they must have shown: the call, an item's kind, and what is shown first of it or "unknown"
+# they must have shown: the call, an item's kind, and what is shown first of it (of the header its Length) or "unknown"
 Format = collections.namedtuple("Format", "name full another list_bytes length_bytes room rules listed late images runs sources calls shown")
 TINY = Format("tiny", 255, lambda rnd: rnd.choice([0, 254, 253, 251, rnd.randrange(256)]), 1, 2, 65536, range(1, 12), range(8, 12),
               (42, 43, 44), tiny_images.images, tiny_runs, ("tiny.c",), ("item", "step", "string"), tiny_shown())
@@ -41,7 +42,8 @@ BOARD = Format("board", board_images.FULL, lambda rnd: rnd.choice([0, board_imag
 
 
 def outcome(call, first, second, kind, shown):
-    """An outcome of a call by number in words: the call, its numbers if they are far, the kind of an item, and what is shown first or the refusal."""
+    """An outcome of a call by number in words: the call, its numbers if they are far, the kind of an item, and what is shown first (of the header its
+    Length) or the refusal."""
     return " ".join(filter(None, (call, first, second and "record " + second, kind, shown)))
 
 

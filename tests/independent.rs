@@ -1,6 +1,7 @@
 //! A reader of tiny (001, Kontron) and board (000, Intel) EEPROM images, written from the papers
-//! alone. "Rule n" is refusal number n of the build paper, 01-scope.md, and rule 34 that of request
-//! R-2 in 02-change-requests.md; rows are those of 000.
+//! alone. "Rule n" is refusal number n of the build paper, 01-scope.md; rules 20 to 22 are as request
+//! R-6 in 02-change-requests.md has them, and rule 34 is that of R-2 there; rows are those of 000.
+//! The header is `$Eeprom$`, its Length 20h or 30h.
 
 use std::hint::black_box;
 use std::mem::MaybeUninit;
@@ -428,10 +429,12 @@ impl<'a> Structure<'a> {
             || self.major == 1 && listed.any(|(&s, bit)| s == self.signature && kinds >> bit & 1 == 1)
     }
 
-    /// Where the Reserved row of its table starts and ends. The fixed part ends there too.
+    /// Where the Reserved row of its table starts and ends; in a header of Length 20h it is empty.
+    /// The fixed part ends there too.
     fn reserved(&self) -> (usize, usize) {
         match self.signature {
-            EEPROM | MAC => (0x20, 0x30),
+            EEPROM => (0x20, self.bytes.len()),
+            MAC => (0x20, 0x30),
             MAP => (0x2D, 0x30),
             BOARD => (0x4D, 0x60),
             FPGA => (0x13, 0x20),
@@ -473,6 +476,7 @@ pub struct Board<'a> {
 }
 
 /// What is shown of a structure: of one that is not known its kind, place and data length alone.
+#[derive(Debug, PartialEq)]
 pub struct ShownBoard<'a> {
     pub signature: [u8; 8],
     pub place: usize,
@@ -480,6 +484,7 @@ pub struct ShownBoard<'a> {
     pub fields: Option<BoardFields<'a>>,
 }
 
+#[derive(Debug, PartialEq)]
 pub struct BoardFields<'a> {
     pub major: u16,
     pub minor: u16,
@@ -493,6 +498,7 @@ pub struct BoardFields<'a> {
 /// A field with the label that its table gives it.
 pub type Field<'a> = (&'static str, Value<'a>);
 
+#[derive(Debug, PartialEq)]
 pub enum Value<'a> {
     Number(u32),
     Bytes(&'a [u8]),
@@ -509,7 +515,7 @@ const GPIO_RECORD: [Row; 7] = [
     ("OrData", 0x1C, 4), ("DataSize", 0x20, 1), ("DataType", 0x21, 1),
 ];
 
-/// The rows of a structure between its generic head and its Reserved row, but Crc32.
+/// The rows of a structure's table between the generic head and Reserved, but Crc32.
 fn rows(signature: u64) -> &'static [Row] {
     match signature {
         EEPROM => &[("StructLen", 0x10, 4), ("CrcLength", 0x18, 4), ("Version", 0x1C, 4)],
@@ -587,8 +593,10 @@ pub fn judge_board(image: &[u8], kinds: u32) -> Judged<Board<'_>> {
     let area = board_frame(image)?;
     let (count, last) = board_shape(area)?;
     let prom_sig = Some(last).filter(|last| last.signature == PROM_SIG);
-    let map = structure_at(area, 0x30).ok_or(refusal(25, area.len()))?;
-    let info = structure_at(area, map.end()).ok_or(refusal(25, area.len()))?;
+    let mut past_header = structures(area).skip(1);
+    let (Some(map), Some(info)) = (past_header.next(), past_header.next()) else {
+        return Err(refusal(25, area.len()));
+    };
     let expected = prom_sig.map_or(area.len(), |prom_sig| prom_sig.place + 0x20);
     hold(27, 0, check_break(area, expected))?;
     hold(28, info.place, (info.end() > 4096).then_some(0))?;
@@ -602,13 +610,14 @@ pub fn judge_board(image: &[u8], kinds: u32) -> Judged<Board<'_>> {
 
 /// Rules 20 to 22: the first StructLen bytes.
 fn board_frame(image: &[u8]) -> Judged<&[u8]> {
-    let head = image.first_chunk::<0x30>().filter(|_| image.len() <= 65_536);
+    let head = image.first_chunk::<0x20>().filter(|_| image.len() <= 65_536);
     let head = head.ok_or(refusal(20, 0))?;
-    if !head.starts_with(b"$Eeprom$") || u16_at(head, 8) != 1 || u32_at(head, 0x0C) != 0x30 {
+    let length = u32_at(head, 0x0C) as usize;
+    if !head.starts_with(b"$Eeprom$") || u16_at(head, 8) != 1 || ![0x20, 0x30].contains(&length) {
         return Err(refusal(21, 0));
     }
     let area = image.get(..u32_at(head, 0x10) as usize);
-    area.filter(|area| area.len() >= 0x30).ok_or(refusal(22, 0x10))
+    area.filter(|area| area.len() >= length).ok_or(refusal(22, 0x10))
 }
 
 /// Rules 23 to 26, along the heads: the count of structures, and the last one.
@@ -653,7 +662,7 @@ fn misshapen(structure: &Structure) -> bool {
 
 /// Rule 27: the sum is over the expected CrcLength, the stored Crc32 counted as zero.
 fn check_break(area: &[u8], expected: usize) -> Option<usize> {
-    let (head, rest) = area.get(..expected)?.split_first_chunk::<0x30>()?;
+    let (head, rest) = area.get(..expected)?.split_first_chunk::<0x20>()?;
     let mut cleared = *head;
     cleared[0x14..0x18].fill(0);
     if !crc32(crc32(!0, &cleared), rest) != u32_at(head, 0x14) {
@@ -773,7 +782,7 @@ fn choose(firmware: &[u8], eeprom: &[u8], kinds: u32) -> Judged<(bool, usize)> {
 fn newer(one: &Board, other: &Board) -> bool {
     // ManuName, BrdName; BoardId, FabId, EcId, BoardType.
     let same = [0x10..0x30, 0x40..0x4D].map(|rows| one.info.get(rows.clone()) == other.info.get(rows));
-    let version = |board: &Board| board.area.first_chunk::<0x30>().map(|head| u32_at(head, 0x1C));
+    let version = |board: &Board| board.area.first_chunk::<0x20>().map(|head| u32_at(head, 0x1C));
     same == [true, true] && version(one) > version(other)
 }
 
@@ -888,6 +897,8 @@ mod tests {
     use super::*;
 
     const FULL: u32 = 0x1_FFFF;
+    /// The Lengths that a header may have.
+    const HEADERS: [usize; 2] = [0x20, 0x30];
     const CASE_4: [u8; 12] = [0x56, 2, 0x0C, 0x10, 0, 1, 4, 0x74, 0x6F, 0x70, 0xB1, 0x57];
 
     /// Number and place of a refusal; number 0 and the count if accepted.
@@ -906,6 +917,10 @@ mod tests {
     fn name_says(image: &[u8], kinds: u32, buffer: &mut [u8]) -> (u64, u64) {
         let (to, room) = (buffer.as_mut_ptr(), buffer.len());
         split(unsafe { independent_tiny_name(image.as_ptr(), image.len(), kinds, to, room) })
+    }
+
+    fn walk_says(format: u32, image: &[u8], kinds: u32) -> (u64, u64) {
+        split(unsafe { independent_walk(format, image.as_ptr(), image.len(), kinds) })
     }
 
     fn choice_says(firmware: &[u8], eeprom: &[u8]) -> u64 {
@@ -938,8 +953,14 @@ mod tests {
         image
     }
 
-    /// A good image of version 4, its PartSize 20000h at least, sealed over `covered` bytes or whole.
-    fn board(records: u32, further: &[Vec<u8>], covered: Option<usize>) -> Vec<u8> {
+    fn seal_whole(image: Vec<u8>) -> Vec<u8> {
+        let covered = image.len();
+        seal(image, covered)
+    }
+
+    /// A good image of version 4 with a header of this Length, its PartSize 20000h at least, sealed
+    /// over `covered` bytes or whole.
+    fn board(header: usize, records: u32, further: &[Vec<u8>], covered: Option<usize>) -> Vec<u8> {
         let mut map = structure(b"$EeprMap", 0x30 + 0x20 * records);
         let block = 0x20000u32;
         map[0x10] = b'$';
@@ -951,7 +972,8 @@ mod tests {
             map[at + 0x10] = 0x20;
             put(&mut map, at + 0x14, &(k * block).to_le_bytes());
         }
-        let mut image = [structure(b"$Eeprom$", 0x30), map, structure(b"$BrdInfo", 0x60)].concat();
+        let header = structure(b"$Eeprom$", header as u32);
+        let mut image = [header, map, structure(b"$BrdInfo", 0x60)].concat();
         for bytes in further {
             image.resize(image.len().next_multiple_of(16), 0);
             image.extend(bytes);
@@ -963,22 +985,43 @@ mod tests {
         seal(image, covered)
     }
 
-    /// Two records: map at 30h, board at A0h, FPGA at 100h, GPIO at 130h with one record at 150h,
-    /// NIC at 180h, an unknown one at 1B0h, memory at 1D0h, end at 1F0h.
-    fn rich() -> Vec<u8> {
+    /// Two records, and with a header of 30h: map at 30h, board at A0h, FPGA at 100h, GPIO at 130h
+    /// with one record at 150h, NIC at 180h, an unknown one at 1B0h, memory at 1D0h, end at 1F0h.
+    /// With a header of 20h each is 10h earlier.
+    fn rich(header: usize) -> Vec<u8> {
         let mut gpio = structure(b"$GpioDat", 0x50);
         put(&mut gpio, 0x20, b"g$");
         gpio[0x30] = 0x30;
         gpio[0x40] = 1;
         let (fpga, mac) = (structure(b"$FPGAnfo", 0x25), structure(b"$MacInfo", 0x30));
         let (new, memory) = (structure(b"$Newer$$", 0x11), structure(b"$MemCnfg", 0x20));
-        board(2, &[fpga, gpio, mac, new, memory], None)
+        board(header, 2, &[fpga, gpio, mac, new, memory], None)
     }
 
-    fn signed(hash_type: u16, length: u32) -> Vec<u8> {
+    /// One record, and `$PromSig` right after the board.
+    fn signed(header: usize, hash_type: u16, length: u32) -> Vec<u8> {
         let mut prom_sig = structure(b"$PromSig", length);
         put(&mut prom_sig, 0x10, &hash_type.to_le_bytes());
-        board(1, &[prom_sig], Some(0x100))
+        board(header, 1, &[prom_sig], Some(header + 0xD0))
+    }
+
+    /// What is said of an image with a header of 30h, if the header has this Length instead.
+    fn moved((number, place): (u64, u64), header: usize) -> (u64, u64) {
+        let past_header = number != 0 && place >= 0x30;
+        (number, if past_header { place - 0x30 + header as u64 } else { place })
+    }
+
+    /// The rich image with one change at a time. Places are those with a header of 30h and past it;
+    /// with one of 20h they are moved.
+    fn check_changes(changes: &[(usize, &[u8], (u64, u64))]) {
+        for header in HEADERS {
+            for &(at, bytes, says) in changes {
+                let mut image = rich(header);
+                put(&mut image, at - 0x30 + header, bytes);
+                let said = board_says(&seal_whole(image), FULL);
+                assert_eq!(said, moved(says, header), "{header:x} {at:x} {bytes:x?}");
+            }
+        }
     }
 
     #[test]
@@ -1078,7 +1121,7 @@ mod tests {
     #[test]
     fn cases_11_to_13() {
         let with = |at: usize, value: u8, version: u8| {
-            let mut image = board(1, &[], None);
+            let mut image = board(0x30, 1, &[], None);
             image[0x1C] = version;
             image[at] ^= value;
             seal(image, 0xE0)
@@ -1094,29 +1137,218 @@ mod tests {
         assert_eq!(choice_says(&with(0x10, 1, 3), &same(3)), 1 << 40 | 0xE0);
         assert_eq!(choice_says(&same(3), &with(0x10, 1, 4)), 0xE0);
         assert_eq!(choice_says(&with(0x11, 0x10, 3), &[]), 22 << 32 | 0x10);
-        assert_eq!(board_says(&board(122, &[], None), FULL), (0, 3));
-        assert_eq!(board_says(&board(123, &[], None), FULL), (28, 0x30 + 0x30 + 123 * 0x20));
+        assert_eq!(board_says(&board(0x30, 122, &[], None), FULL), (0, 3));
+        assert_eq!(board_says(&board(0x30, 123, &[], None), FULL), (28, 0x30 + 0x30 + 123 * 0x20));
+    }
+
+    /// Headers without structures after them, and zeros up to what is lent.
+    #[test]
+    fn header_bounds() {
+        let says = |length: u32, struct_len: u32, lent: usize| {
+            let mut image = structure(b"$Eeprom$", 0x50);
+            put(&mut image, 0x0C, &length.to_le_bytes());
+            put(&mut image, 0x10, &struct_len.to_le_bytes());
+            let said = [FULL, 0].map(|kinds| board_says(&image[..lent], kinds));
+            assert_eq!(said[0], said[1]);
+            said[0]
+        };
+        for (length, struct_len, lent, answer) in [
+            (0x20, 0x20, 0x1F, (20, 0)),
+            (0x20, 0x1F, 0x1F, (20, 0)),
+            (0x20, 0x1F, 0x20, (22, 0x10)),
+            (0x20, 0x20, 0x20, (25, 0x20)),
+            (0x20, 0x21, 0x20, (22, 0x10)),
+            (0x20, 0x20, 0x21, (25, 0x20)),
+            (0x20, 0x21, 0x21, (23, 0x20)),
+            (0x20, 0x1F, 0x2F, (22, 0x10)),
+            (0x20, 0x20, 0x2F, (25, 0x20)),
+            (0x20, 0x2F, 0x2F, (23, 0x20)),
+            (0x20, 0x30, 0x2F, (22, 0x10)),
+            (0x20, 0x1F, 0x30, (22, 0x10)),
+            (0x20, 0x20, 0x30, (25, 0x20)),
+            (0x20, 0x30, 0x30, (23, 0x20)),
+            (0x20, 0, 0x50, (22, 0x10)),
+            (0x20, u32::MAX, 0x50, (22, 0x10)),
+            (0x30, 0x20, 0x1F, (20, 0)),
+            (0x30, 0x20, 0x20, (22, 0x10)),
+            (0x30, 0x2F, 0x2F, (22, 0x10)),
+            (0x30, 0x30, 0x2F, (22, 0x10)),
+            (0x30, 0x20, 0x30, (22, 0x10)),
+            (0x30, 0x2F, 0x30, (22, 0x10)),
+            (0x30, 0x30, 0x30, (25, 0x30)),
+            (0x30, 0x31, 0x30, (22, 0x10)),
+            (0x30, 0x2F, 0x31, (22, 0x10)),
+            (0x30, 0x30, 0x31, (25, 0x30)),
+            (0x30, 0x31, 0x31, (23, 0x30)),
+            (0x30, 0x20, 0x50, (22, 0x10)),
+            (0x30, u32::MAX, 0x50, (22, 0x10)),
+        ] {
+            assert_eq!(says(length, struct_len, lent), answer, "{length:x} {struct_len:x} {lent:x}");
+        }
+        let near = (0..=0x50).filter(|length| ![0x20, 0x30].contains(length));
+        let far = [0x120, 0x130, 0x1_0020, 0x1_0030, 0x2000_0000, 0x3000_0000, 0x8000_0020, u32::MAX];
+        for length in near.chain(far) {
+            for lent in 0..=0x50 {
+                let answer = if lent < 0x20 { (20, 0) } else { (21, 0) };
+                for struct_len in [0, 0x20, 0x30, lent as u32] {
+                    assert_eq!(says(length, struct_len, lent), answer, "{length:x} {lent:x}");
+                }
+            }
+        }
+    }
+
+    /// One bit changed in a generic head of `$Eeprom$`. It may turn either Length into the other,
+    /// and then no structure starts where the header is said to end.
+    #[test]
+    fn damaged_headers() {
+        for header in HEADERS {
+            for (at, bit) in (0..0x10).flat_map(|at| (0..8).map(move |bit| (at, bit))) {
+                let mut image = board(header, 1, &[], None);
+                image[at] ^= 1 << bit;
+                let image = seal_whole(image);
+                let (cut, whole) = match (at, bit, header) {
+                    (0x0C, 4, 0x20) => ((22, 0x10), (23, 0x30)),
+                    (0x0C, 4, _) => ((22, 0x10), (23, 0x20)),
+                    (0x0A..=0x0B, ..) => ((22, 0x10), (0, 3)),
+                    _ => ((21, 0), (21, 0)),
+                };
+                for lent in 0..=image.len() {
+                    let says = match lent {
+                        _ if lent < 0x20 => (20, 0),
+                        _ if lent < image.len() => cut,
+                        _ => whole,
+                    };
+                    assert_eq!(board_says(&image[..lent], FULL), says, "{header:x} {at:x} {bit} {lent:x}");
+                }
+            }
+        }
+    }
+
+    #[test]
+    fn longest_images() {
+        for header in HEADERS {
+            let mut image = rich(header);
+            image.resize(65_536, 9);
+            assert_eq!(board_says(&image, FULL), (0, 8));
+            image.push(0);
+            assert_eq!(board_says(&image, FULL), (20, 0));
+            let filled = |length: usize| {
+                let filler = structure(b"$Newer$$", (length - header - 0xB0) as u32);
+                board(header, 1, &[filler], None)
+            };
+            assert_eq!(board_says(&filled(65_536), FULL), (0, 4));
+            assert_eq!(board_says(&filled(65_537), FULL), (20, 0));
+            assert_eq!(board_says(&filled(65_537)[..65_536], FULL), (22, 0x10));
+        }
+    }
+
+    /// Case 13 with either header; PartSize may not be less than StructLen.
+    #[test]
+    fn one_record() {
+        for header in HEADERS {
+            let end = header + 0xB0;
+            let of_size = |size: usize| {
+                let mut image = board(header, 1, &[], None);
+                put(&mut image, header + 0x20, &(size as u32).to_le_bytes());
+                put(&mut image, header + 0x26, &(size as u32).to_le_bytes());
+                seal(image, end)
+            };
+            assert_eq!(board_says(&of_size(end), FULL), (0, 3));
+            assert_eq!(board_says(&of_size(end - 1), FULL), (30, header as u64 + 0x26));
+            let map = header as u64;
+            let rows = [[EEPROM, 0, map - 0x10, 1], [MAP, map, 0x40, 1], [BOARD, map + 0x50, 0x50, 1]];
+            assert_eq!(list_says(1, &of_size(end), 0, 3), ((0, 3), rows.into()));
+        }
+    }
+
+    /// 122 records are the most with either header, though the board ends at FF0h with one of 20h.
+    #[test]
+    fn most_map_records() {
+        for (header, end) in [(0x20, 0xFF0), (0x30, 0x1000)] {
+            let with = |records| board(header, records, &[], None);
+            assert_eq!(board_says(&with(121), FULL), (0, 3));
+            let most = with(122);
+            let (says, rows) = list_says(1, &most, FULL, 3);
+            assert_eq!((says, rows[2]), ((0, 3), [BOARD, end - 0x60, 0x50, 1]));
+            assert_eq!((most.len() as u64, walk_says(1, &most, 0)), (end, (0, 3)));
+            let shown = judge_board(&most, 0).unwrap();
+            let label = |k: usize| shown.map_record(k).map(|mut record| record.remove(0).1);
+            assert_eq!(label(0), Ok(Value::Bytes(b"block number 000")));
+            assert_eq!(label(121), Ok(Value::Bytes(b"block number 121")));
+            assert_eq!(label(122), Err(refusal(42, 0)));
+            for kinds in [FULL, 0] {
+                assert_eq!(board_says(&with(123), kinds), (28, end - 0x40));
+                assert_eq!(board_says(&with(2000), kinds), (28, header as u64 + 0x30 + 2000 * 0x20));
+            }
+        }
+    }
+
+    /// Rule 32 looks at 20h to 2Fh with a header of 30h; with one of 20h the map is there.
+    #[test]
+    fn header_reserved() {
+        for at in 0x1F..0x30 {
+            for (minor, byte) in [(0, 0), (0, 1), (1, 1), (0x80, 0xFF)] {
+                let mut image = board(0x30, 1, &[], None);
+                (image[at], image[0x0B]) = (byte, minor);
+                let broken = at >= 0x20 && (minor, byte) == (0, 1);
+                let says = if broken { (32, at as u64) } else { (0, 3) };
+                let image = seal_whole(image);
+                assert_eq!([FULL, 0].map(|kinds| board_says(&image, kinds)), [says; 2], "{at:x} {minor}");
+            }
+        }
+        for (minor, version) in [(0, 0), (0, 0xFF), (1, 0), (0x80, 0xFF)] {
+            let mut image = board(0x20, 1, &[], None);
+            (image[0x0B], image[0x1F]) = (minor, version);
+            let image = seal_whole(image);
+            assert_eq!([FULL, 0].map(|kinds| board_says(&image, kinds)), [(0, 3); 2]);
+        }
+        let mut image = board(0x20, 1, &[], None);
+        (image[0x0A], image[0x4F]) = (1, 1);
+        assert_eq!(board_says(&seal_whole(image), 0), (32, 0x4F));
     }
 
     #[test]
     fn board_frame_and_shape() {
-        let image = rich();
-        assert_eq!((board_says(&image, FULL), board_says(&image, 0)), ((0, 8), (0, 8)));
-        assert_eq!(board_says(&image[..0x2F], FULL), (20, 0));
-        assert_eq!(board_says(&image[..0x1EF], FULL), (22, 0x10));
-        let mut long = image.clone();
-        long.resize(65_536, 9);
-        assert_eq!(board_says(&long, FULL), (0, 8));
-        long.push(0);
-        assert_eq!(board_says(&long, FULL), (20, 0));
-        for (at, bytes, says) in [
-            (0x07, &b"_"[..], (21, 0)),
-            (0x08, &[2], (21, 0)),
-            (0x0C, &[0x20], (21, 0)),
-            (0x10, &[0x2F, 0], (22, 0x10)),
-            (0x10, &[0x30, 0], (25, 0x30)),
-            (0x10, &[0xA0, 0], (25, 0xA0)),
-            (0x10, &[0xDF, 1], (23, 0x1D0)),
+        for (header, at, bytes, says) in [
+            (0x30, 0x07, &b"_"[..], (21, 0)),
+            (0x30, 0x08, &[2], (21, 0)),
+            (0x30, 0x0C, &[0x1F], (21, 0)),
+            (0x30, 0x0C, &[0x20], (23, 0x20)),
+            (0x30, 0x0C, &[0x2F], (21, 0)),
+            (0x30, 0x0C, &[0x40], (21, 0)),
+            (0x30, 0x0D, &[1], (21, 0)),
+            (0x30, 0x10, &[0x20, 0], (22, 0x10)),
+            (0x30, 0x10, &[0x2F, 0], (22, 0x10)),
+            (0x30, 0x10, &[0x30, 0], (25, 0x30)),
+            (0x30, 0x10, &[0x3F, 0], (23, 0x30)),
+            (0x30, 0x10, &[0xA0, 0], (25, 0xA0)),
+            (0x30, 0x10, &[0xDF, 1], (23, 0x1D0)),
+            (0x30, 0x10, &[0xF1, 1], (22, 0x10)),
+            (0x30, 0x18, &[0xEF], (27, 0x18)),
+            (0x20, 0x07, b"_", (21, 0)),
+            (0x20, 0x08, &[2], (21, 0)),
+            (0x20, 0x0C, &[0x1F], (21, 0)),
+            (0x20, 0x0C, &[0x21], (21, 0)),
+            (0x20, 0x0C, &[0x30], (23, 0x30)),
+            (0x20, 0x0C, &[0x10], (21, 0)),
+            (0x20, 0x0D, &[1], (21, 0)),
+            (0x20, 0x10, &[0x1F, 0], (22, 0x10)),
+            (0x20, 0x10, &[0x20, 0], (25, 0x20)),
+            (0x20, 0x10, &[0x21, 0], (23, 0x20)),
+            (0x20, 0x10, &[0x2F, 0], (23, 0x20)),
+            (0x20, 0x10, &[0x30, 0], (23, 0x20)),
+            (0x20, 0x10, &[0x90, 0], (25, 0x90)),
+            (0x20, 0x10, &[0xCF, 1], (23, 0x1C0)),
+            (0x20, 0x10, &[0xE1, 1], (22, 0x10)),
+            (0x20, 0x18, &[0xEF], (27, 0x18)),
+            (0x20, 0x18, &[0xF0], (27, 0x18)),
+        ] {
+            let mut image = rich(header);
+            assert_eq!([FULL, 0].map(|kinds| board_says(&image, kinds)), [(0, 8); 2]);
+            put(&mut image, at, bytes);
+            assert_eq!(board_says(&seal_whole(image), FULL), says, "{header:x} {at:x} {bytes:x?}");
+        }
+        check_changes(&[
             (0x1DC, &[0x1F], (23, 0x1F0)),
             (0x1DC, &[0x21], (23, 0x1D0)),
             (0x1DC, &[0x0F], (23, 0x1D0)),
@@ -1131,22 +1363,19 @@ mod tests {
             (0x1D0, b"$PromSig", (0, 8)),
             (0x38, &[0], (26, 0x30)),
             (0xA9, &[1], (26, 0xA0)),
-            (0x18, &[0xEF], (27, 0x18)),
-        ] {
-            let mut image = rich();
-            put(&mut image, at, bytes);
-            assert_eq!(board_says(&seal(image, 0x1F0), FULL), says, "{at:x} {bytes:x?}");
+        ]);
+        for header in HEADERS {
+            let mut image = rich(header);
+            image[0x14] ^= 1;
+            image[0x18] ^= 1;
+            assert_eq!(board_says(&image, FULL), (27, 0x14));
         }
-        let mut image = rich();
-        image[0x14] ^= 1;
-        image[0x18] ^= 1;
-        assert_eq!(board_says(&image, FULL), (27, 0x14));
     }
 
     #[test]
     fn board_fields() {
-        for (at, bytes, says) in [
-            (0x41, &[1][..], (30, 0x41)),
+        check_changes(&[
+            (0x41, &[1], (30, 0x41)),
             (0x52, &[0], (30, 0x50)),
             (0x56, &[1], (30, 0x56)),
             (0x5B, &[2], (30, 0x5B)),
@@ -1157,7 +1386,6 @@ mod tests {
             (0x98, &[0x80], (30, 0x98)),
             (0x98, &[0x7F], (0, 8)),
             (0xEC, &[2], (31, 0xEC)),
-            (0x2F, &[1], (32, 0x2F)),
             (0x5D, &[1], (32, 0x5D)),
             (0x99, &[1], (32, 0x99)),
             (0xED, &[1], (32, 0xED)),
@@ -1173,22 +1401,18 @@ mod tests {
             (0x171, &[5], (33, 0x171)),
             (0x13A, &[1, 0, 0x50, 0, 0, 0, 9], (0, 8)),
             (0x13C, &[0x4F], (33, 0x130)),
-        ] {
-            let mut image = rich();
-            put(&mut image, at, bytes);
-            assert_eq!(board_says(&seal(image, 0x1F0), FULL), says, "{at:x} {bytes:x?}");
-        }
+        ]);
     }
 
-    /// An image with a map of these labels: its first record at 60h, after the last one the board.
-    fn labelled(labels: &[&[u8]], further: &[Vec<u8>]) -> Vec<u8> {
-        let mut image = board(labels.len() as u32, further, None);
+    /// An image with a map of these labels: the first record 30h after the header, after the last
+    /// one the board.
+    fn labelled(header: usize, labels: &[&[u8]], further: &[Vec<u8>]) -> Vec<u8> {
+        let mut image = board(header, labels.len() as u32, further, None);
         for (k, label) in labels.iter().enumerate() {
-            put(&mut image, 0x60 + 0x20 * k, &[0; 16]);
-            put(&mut image, 0x60 + 0x20 * k, label);
+            put(&mut image, header + 0x30 + 0x20 * k, &[0; 16]);
+            put(&mut image, header + 0x30 + 0x20 * k, label);
         }
-        let covered = image.len();
-        seal(image, covered)
+        seal_whole(image)
     }
 
     #[test]
@@ -1207,17 +1431,22 @@ mod tests {
             ([b"sixteen letters!", b"b$", b"c$", b"sixteen letters!"], (34, 0xC0)),
             ([b"a", b"a", b"c$", b"d$"], (30, 0x61)),
         ] {
-            let image = labelled(&labels, &[]);
-            for kinds in [FULL, 0, 1 << 10, !0] {
-                assert_eq!(board_says(&image, kinds), says, "{labels:x?}");
+            for header in HEADERS {
+                let image = labelled(header, &labels, &[]);
+                for kinds in [FULL, 0, 1 << 10, !0] {
+                    assert_eq!(board_says(&image, kinds), moved(says, header), "{labels:x?}");
+                }
             }
         }
         let numbers: Vec<Vec<u8>> = (0..121).map(|k| format!("{k}$").into()).collect();
         let mut labels: Vec<&[u8]> = numbers.iter().map(|label| &label[..]).collect();
-        labels.push(b"0$");
-        assert_eq!(board_says(&labelled(&labels, &[]), FULL), (34, 0xF80));
-        labels.push(b"0$");
-        assert_eq!(board_says(&labelled(&labels, &[]), FULL), (28, 0xFC0));
+        for says in [(34, 0xF80), (28, 0xFC0)] {
+            labels.push(b"0$");
+            for header in HEADERS {
+                let image = labelled(header, &labels, &[]);
+                assert_eq!(board_says(&image, FULL), moved(says, header));
+            }
+        }
     }
 
     /// Labels outside the map's records may equal each other and those of records.
@@ -1228,7 +1457,7 @@ mod tests {
             put(&mut gpio, at, b"a$");
             (gpio[at + 0x10], gpio[at + 0x20]) = (0x30, 1);
         }
-        let mut image = labelled(&[b"a$", b"b$"], &[gpio]);
+        let mut image = labelled(0x30, &[b"a$", b"b$"], &[gpio]);
         put(&mut image, 0x40, b"a$");
         assert_eq!(board_says(&seal(image, 0x180), FULL), (0, 4));
     }
@@ -1237,9 +1466,10 @@ mod tests {
     /// break.
     #[test]
     fn equal_labels_in_order() {
-        let image = labelled(&[b"a$", b"a$"], &[structure(b"$PromSig", 0x20)]);
+        let image = labelled(0x30, &[b"a$", b"a$"], &[structure(b"$PromSig", 0x20)]);
         for (at, byte, says) in [
-            (0x0C, 0x20, (21, 0)),
+            (0x0C, 0x2F, (21, 0)),
+            (0x0C, 0x20, (23, 0x20)),
             (0x38, 2, (26, 0x30)),
             (0x18, 0, (27, 0x18)),
             (0x110, 6, (29, 0x110)),
@@ -1256,18 +1486,17 @@ mod tests {
         }
         let mut further = structure(b"$FPGAnfo", 0x20);
         further[0x10] = 5;
-        assert_eq!(board_says(&labelled(&[b"a$", b"a$"], &[further]), FULL), (34, 0x80));
+        assert_eq!(board_says(&labelled(0x30, &[b"a$", b"a$"], &[further]), FULL), (34, 0x80));
     }
 
     #[test]
     fn equal_labels_in_every_call() {
-        let (good, bad) = (labelled(&[b"a$", b"b$"], &[]), labelled(&[b"a$", b"a$"], &[]));
+        let [good, bad] = [b"b$", b"a$"].map(|second| labelled(0x30, &[b"a$", second], &[]));
         let left = [7, 7, 7, 1];
         for room in [0, 2, 3] {
             assert_eq!(list_says(1, &bad, 0, room), ((34, 0x80), vec![left; room]));
         }
-        let walk = unsafe { independent_walk(1, bad.as_ptr(), bad.len(), FULL) };
-        assert_eq!(split(walk), (34, 0x80));
+        assert_eq!(walk_says(1, &bad, FULL), (34, 0x80));
         assert_eq!((choice_says(&bad, &good), choice_says(&good, &bad)), (1 << 40 | 0x100, 0x100));
         assert_eq!((choice_says(&bad, &[]), choice_says(&[], &bad)), (34 << 32 | 0x80, 20 << 32));
         assert_eq!(choice_says(&good, &good), 0x100);
@@ -1281,7 +1510,7 @@ mod tests {
                 let mut bytes = structure(&signature.to_le_bytes(), length);
                 bytes[16..].fill(0xFF);
                 (bytes[8], bytes[10]) = (major, minor);
-                board_says(&board(1, &[bytes], None), kinds)
+                board_says(&board(0x30, 1, &[bytes], None), kinds)
             };
             let (fixed, kinds) = if *signature == MAC { (0x30, 1 << 14) } else { (0x20, 256 << bit) };
             let reserved = match *signature { FPGA => 0x13, MEMORY => 0x12, MAC => 0x20, _ => 0x10 };
@@ -1296,7 +1525,7 @@ mod tests {
         let gpio = |at: usize, length: u32| {
             let mut bytes = structure(b"$GpioDat", length);
             bytes[at] = 1;
-            board_says(&board(1, &[bytes], None), FULL)
+            board_says(&board(0x30, 1, &[bytes], None), FULL)
         };
         assert_eq!((gpio(0x4F, 0x7F), gpio(0x72, 0x7F), gpio(0x4F, 0x4F + 1)),
             ((32, 0xE0 + 0x4F), (33, 0xE0), (32, 0xE0 + 0x4F)));
@@ -1309,17 +1538,26 @@ mod tests {
             (6, 0x20, false), (0x8000, 0x20, false), (0x8001, 0x30, true), (0x8001, 0x2F, false),
             (0x8003, 0x99, true), (0x8004, 0x50, false), (0x4001, 0x30, false)] {
             let says = if good { (0, 4) } else { (29, 0xF0) };
-            assert_eq!(board_says(&signed(hash_type, length), 0), says, "{hash_type:x} {length:x}");
+            for header in HEADERS {
+                let said = board_says(&signed(header, hash_type, length), 0);
+                assert_eq!(said, moved(says, header), "{header:x} {hash_type:x} {length:x}");
+            }
         }
-        let mut image = signed(0, 0x20);
-        image[0xEC] = 0x1F;
-        assert_eq!(board_says(&image, FULL), (23, 0x100));
-        let mut image = signed(0x8003, 0x99);
-        image[0x100] = 1;
-        assert_eq!(board_says(&image, FULL), (0, 4));
-        image[0xF2] = 1;
-        assert_eq!(board_says(&image, FULL), (27, 0x14));
-        assert_eq!(board_says(&seal(image, 0x100), FULL), (32, 0xF2));
+        for header in HEADERS {
+            let start = header + 0xB0;
+            let mut image = signed(header, 0, 0x20);
+            image[start + 0x0C] = 0x1F;
+            assert_eq!(board_says(&image, FULL), moved((23, 0x100), header));
+            let mut image = signed(header, 0x8003, 0x99);
+            image[start + 0x20] = 1;
+            assert_eq!(board_says(&image, FULL), (0, 4));
+            image[start + 0x12] = 1;
+            assert_eq!(board_says(&image, FULL), (27, 0x14));
+            let mut image = seal(image, start + 0x20);
+            assert_eq!(board_says(&image, FULL), moved((32, 0xF2), header));
+            image[0x18] ^= 0x10;
+            assert_eq!(board_says(&seal(image, start + 0x20), FULL), (27, 0x18));
+        }
     }
 
     fn list_says(format: u32, image: &[u8], kinds: u32, room: usize) -> ((u64, u64), Vec<[u64; 4]>) {
@@ -1338,7 +1576,7 @@ mod tests {
         assert_eq!(tiny_list, ((0, 2), vec![[0x10, 3, 1, 0], [1, 5, 4, 1], left]));
         assert_eq!(list_says(0, &CASE_4, 1, 1), ((43, 0), vec![left]));
         assert_eq!(list_says(1, &CASE_4, 1, 0), ((20, 0), vec![]));
-        let mut image = rich();
+        let mut image = rich(0x30);
         put(&mut image, 0x1D8, &[2]);
         let (says, rows) = list_says(1, &seal(image, 0x1F0), FULL & !(1 << 9), 9);
         let known: Vec<u64> = rows.iter().map(|row| row[3]).collect();
@@ -1392,7 +1630,7 @@ mod tests {
 
     #[test]
     fn shown_boards() {
-        let mut image = rich();
+        let mut image = rich(0x30);
         put(&mut image, 0x111, &[7, 9]);
         put(&mut image, 0x164, &[1, 2, 3, 4, 5, 6, 7, 8, 9, 10, 11, 12, 4, 3]);
         let image = seal(image, 0x1F0);
@@ -1421,13 +1659,97 @@ mod tests {
         }
     }
 
+    /// A header shows its own Length, and all else is shown 10h earlier after one of 20h.
+    #[test]
+    fn shown_headers() {
+        let images = HEADERS.map(rich);
+        for kinds in [FULL, 0, 1 << 10, FULL & !(1 << 10)] {
+            let [short, long] = images.each_ref().map(|image| judge_board(image, kinds).unwrap());
+            for (board, length, struct_len) in [(&short, 0x20, 0x1E0), (&long, 0x30, 0x1F0)] {
+                let rows = [("StructLen", struct_len), ("CrcLength", struct_len), ("Version", 4)];
+                let rows = rows.map(|(label, number)| (label, Value::Number(number))).into();
+                let fields = Some(BoardFields { major: 1, minor: 0, length, rows, data: None });
+                let header = ShownBoard { signature: *b"$Eeprom$", place: 0, length: length - 0x10, fields };
+                assert_eq!(board.item(0), Ok(header));
+                assert_eq!((board.count, board.item(8)), (8, Err(refusal(42, 0))));
+            }
+            for number in 1..8 {
+                let mut item = long.item(number).unwrap();
+                item.place -= 0x10;
+                if let Some(BoardFields { data: Some((place, _)), .. }) = &mut item.fields {
+                    *place -= 0x10;
+                }
+                assert_eq!(short.item(number), Ok(item));
+            }
+            for number in 0..3 {
+                assert_eq!(short.map_record(number), long.map_record(number));
+                for item in 0..9 {
+                    assert_eq!(short.gpio_record(item, number), long.gpio_record(item, number));
+                }
+            }
+            assert_eq!(short.gpio_record(4, 0).is_ok(), kinds >> 10 & 1 == 1);
+        }
+    }
+
+    /// List and walk over either header, the list with the same entries but for their places.
+    #[test]
+    fn listed_headers() {
+        let ([short, long], left) = (HEADERS.map(rich), [7, 7, 7, 1]);
+        for kinds in [FULL, 0, 1 << 10, FULL & !(1 << 10)] {
+            let (says, mut rows) = list_says(1, &long, kinds, 9);
+            assert_eq!((says, rows[0], rows[8]), ((0, 8), [EEPROM, 0, 0x20, 1], left));
+            rows[0][2] -= 0x10;
+            rows[1..8].iter_mut().for_each(|row| row[1] -= 0x10);
+            let known = rows[..8].iter().map(|row| row[3]).sum();
+            assert_eq!(list_says(1, &short, kinds, 9), (says, rows));
+            assert_eq!([walk_says(1, &short, kinds), walk_says(1, &long, kinds)], [(0, known); 2]);
+            assert_eq!(list_says(1, &short, kinds, 7), ((43, 0), vec![left; 7]));
+        }
+        for (lent, says) in [(0x1F, (20, 0)), (0x20, (22, 0x10)), (0x1DF, (22, 0x10))] {
+            assert_eq!(list_says(1, &short[..lent], FULL, 9), (says, vec![left; 9]));
+            assert_eq!(walk_says(1, &short[..lent], FULL), says);
+        }
+        assert_eq!(list_says(1, &long[..0x2F], FULL, 9), ((22, 0x10), vec![left; 9]));
+        assert_eq!(walk_says(1, &long[..0x2F], FULL), (22, 0x10));
+    }
+
+    /// The choice between two images does not depend on the Lengths of their headers.
+    #[test]
+    fn chosen_headers() {
+        let with = |header: usize, version: u8, at: usize| {
+            let mut image = board(header, 1, &[], None);
+            image[0x1C] = version;
+            image[header + 0x50 + at] ^= 1;
+            let mut image = seal_whole(image);
+            image.push(9);
+            image
+        };
+        // The first byte of BrdSerial, which is not compared.
+        let serial = 0x30;
+        for (one, other) in HEADERS.into_iter().flat_map(|one| HEADERS.map(|other| (one, other))) {
+            let (firmware, eeprom) = (one as u64 + 0xB0, 1 << 40 | other as u64 + 0xB0);
+            for (version, at, says) in [(4, serial, eeprom), (4, 0x3F, eeprom), (3, serial, firmware),
+                (2, serial, firmware), (4, 0x10, firmware), (4, 0x2F, firmware), (4, 0x40, firmware),
+                (4, 0x44, firmware), (4, 0x4B, firmware), (4, 0x4C, firmware)] {
+                assert_eq!(choice_says(&with(one, 3, serial), &with(other, version, at)), says, "{at:x}");
+            }
+            let (good, bad) = (|header| with(header, 3, serial), |header| with(header, 4, 0x0F));
+            assert_eq!(choice_says(&bad(one), &good(other)), eeprom);
+            assert_eq!(choice_says(&good(one), &bad(other)), firmware);
+            assert_eq!(choice_says(&bad(one)[..one], &bad(other)), 22 << 32 | 0x10);
+            assert_eq!(choice_says(&good(one)[..0x1F], &good(other)[..other]), 20 << 32);
+        }
+    }
+
     #[test]
     fn prefixes() {
-        let (whole, longest) = (rich(), signed(0x8001, 0x35));
-        for length in 0..whole.len() {
-            let says = if length < 0x30 { (20, 0) } else { (22, 0x10) };
-            assert_eq!(board_says(&whole[..length], FULL), says);
-            assert_eq!(board_says(&longest[..length.min(0x114)], 0), says);
+        for header in HEADERS {
+            let (whole, longest) = (rich(header), signed(header, 0x8001, 0x35));
+            for length in 0..whole.len() {
+                let says = if length < 0x20 { (20, 0) } else { (22, 0x10) };
+                assert_eq!(board_says(&whole[..length], FULL), says);
+                assert_eq!(board_says(&longest[..length.min(header + 0xE4)], 0), says);
+            }
         }
         for length in 0..CASE_4.len() {
             let says = if length < 4 { (1, 0) } else { (4, 2) };
@@ -1446,20 +1768,23 @@ mod tests {
             state ^= state << 17;
             (state >> 11) % below
         };
-        let bases = [rich(), signed(0x8001, 0x35), tiny(&CASE_4[3..11]),
+        let tinies = [tiny(&CASE_4[3..11]),
             tiny(&[0x80, 0, 1, 1, 1, 0x41, 0x41, 1, 1, 0x10, 1, 0x02, 1, 5, 0x01, 3, 0xC1, 0x41, 0xC2])];
-        for round in 0..40_000 {
-            let mut image = bases[round % 4].clone();
+        // Each with its format and how many bytes its check is over.
+        let mut bases = Vec::from(tinies.map(|image| (0, image.len() - 1, image)));
+        for header in HEADERS {
+            bases.push((1, header + 0x1C0, rich(header)));
+            bases.push((1, header + 0xD0, signed(header, 0x8001, 0x35)));
+        }
+        for round in 0..60_000 {
+            let (format, covered, mut image) = bases[round % bases.len()].clone();
             for _ in 0..=next(3) {
                 let at = next(image.len() as u64) as usize;
                 image[at] = if next(2) == 0 { next(256) as u8 } else { image[at] ^ 1 << next(8) };
             }
-            let format = u32::from(round % 4 < 2);
             if format == 0 {
-                let end = image.len() - 1;
-                image[end] = crc8(&image[..end]);
+                image[covered] = crc8(&image[..covered]);
             } else {
-                let covered = if round % 4 == 0 { image.len() } else { 0x100 };
                 image = seal(image, covered);
             }
             image.truncate(image.len() - next(20) as usize / 19);
@@ -1472,8 +1797,7 @@ mod tests {
                 let alike = |(a, b): (&[u64; 4], &[u64; 4])| a[..3] == b[..3] && a[3] >= b[3];
                 assert!(long.iter().zip(&short).all(alike));
                 let known = long[..says.1 as usize].iter().map(|row| row[3]).sum();
-                let (bytes, length) = (image.as_ptr(), image.len());
-                assert_eq!(split(unsafe { independent_walk(format, bytes, length, longer) }), (0, known));
+                assert_eq!(walk_says(format, &image, longer), (0, known));
             } else {
                 assert!(long.iter().all(|row| *row == [7, 7, 7, 1]));
             }

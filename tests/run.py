@@ -11,13 +11,14 @@
    tests/reference/board.c and tests/independent.rs;
 3. `tiny_list` and `board_list` list some of them as the references do;
 4. each refusal number from 1 to 11, and 42, 43 and 44, was among the answers for tiny images; from 20 to 34, and 42, for boards. Each tag
-   and each structure was shown, known and where a list can lack it not known, and strings, map records and GPIO records; each of these calls
-   by number was refused with each number that it can be, at numbers up to the count and at 2^32 and 2^64 - 1 (formats.py, `due`);
+   and each structure was shown, known and where a list can lack it not known, the header with each Length that it may have, and strings, map
+   records and GPIO records; each of these calls by number was refused with each number that it can be, at numbers up to the count and at 2^32
+   and 2^64 - 1 (formats.py, `due`);
 5. every answer of `tiny_write` for as many requests as tiny images, and at least 20,000, is the answer of tests/reference/tiny.c; where a
    request was made for an answer, it gets that; each refusal number of the writer was among the answers, and no other. The same for
-   `board_write`, a third as many requests as board images, and tests/reference/board_write.c;
+   `board_write`, a third as many requests as board images, and tests/reference/board_write.c; boards were written with each header;
 6. every answer of `choice_answers` for a third as many pairs of images as board images is the answer of tests/reference/board_write.c;
-   where a pair was made for an answer, it gets that; firmware, EEPROM and neither were among the answers;
+   where a pair was made for an answer, it gets that; firmware and EEPROM, each with each header, and neither were among the answers;
 7. what the gate compares `tiny_answers`, `tiny_write`, `board_answers`, `board_list`, `board_write` and `choice_answers` with is what the
    references answer, and tests/independent.rs where it shows the same;
 8. the CRCs exported to C are those of zlib and of a plain loop, and read nothing past either end (tests/crcs.c);
@@ -221,10 +222,14 @@ def shown(image):
     return "of %d bytes in target/different.bin" % len(image)
 
 
-# of a line of `tiny_answers` or `board_answers`: the call, its first and its second number if they are far, the kind of an item, and what is shown first or
-# the refusal
+# of a line of `tiny_answers` or `board_answers`: the call, its first and its second number if they are far, the kind of an item, and what is shown first (of
+# the header its Length) or the refusal
 SHOWN = re.compile(r"^(item|step|string|map|gpio) (?:({far})|\d+)(?: (?:({far})|\d+))? (?:(?:tag|kind) (\w+) place \d+ length \d+ )?"
-                   r"(refused \d+|serial \w+|\w+)".format(far="|".join(FAR)).encode(), re.MULTILINE)
+                   r"(?:major \d+ minor \d+ (?=Length \d+ StructLen ))?(refused \d+|serial \w+|Length \d+|\w+)".format(far="|".join(FAR)).encode(),
+                   re.MULTILINE)
+
+# of the bytes of a board image, as the writer and the choice show them: the low byte of the header's Length
+HEADER = re.compile(rb" 24 45 65 70 72 6F 6D 24 (?:\w\w ){4}(\w\w) ")
 
 
 def compare(form, others, made, seed):
@@ -306,7 +311,7 @@ def lines(form, made, seed):
     others = tiny_images.cycle(rnd, form.runs.OTHER_LINES)
     for *asked, said in made:
         yield form.runs.line(rnd, *asked), said
-        if rnd.random() < 0.02:
+        if rnd.random() < 0.05:
             yield next(others), "not a request"
         if rnd.random() < 0.02:
             yield b"", ""
@@ -329,9 +334,24 @@ def shortened(text):
     return text if len(text) <= 10000 else text[:5000] + b" ... " + text[-5000:]
 
 
+def header_of(said):
+    """The Length of the header of the board image that an answer begins with, if it has one."""
+    found = HEADER.search(said, 0, 100)
+    return found and int(found[1], 16)
+
+
+def each_header(what, headers):
+    """Prints how often boards with each header were among the answers; none with one of them is a failure."""
+    print("tests: boards %s, by the header's Length: %s" % (what, ", ".join("%Xh %d" % (length, headers[length]) for length in board_images.HEADERS)))
+    missing = ["%Xh" % length for length in board_images.HEADERS if not headers[length]]
+    if missing:
+        fail("no board with the header's Length %s was %s" % (" or ".join(missing), what))
+
+
 def compare_lines(form, reference, made, seed):
-    """All answers to the lines; how often each refusal number (0: written) was answered, and how many answers were known before."""
-    counts, known = {}, 0
+    """All answers to the lines; how often each refusal number (0: written) was answered, how many answers were known before, and how often an image was
+    written with each header."""
+    counts, known, headers = {}, 0, collections.Counter()
     for run, expected in line_runs(form, made, seed):
         ours = output(os.path.join(BIN, form.name + "_write"), given=run).split(b"\n")
         theirs = output(reference, "write", given=run).split(b"\n")
@@ -343,15 +363,16 @@ def compare_lines(form, reference, made, seed):
             key = int(words[1]) if words[0] == "refused" else 0 if words[0] == "length" else "none"
             counts[key] = counts.get(key, 0) + 1
             known += said is not None
+            headers[header_of(a)] += 1
         if not len(ours) == len(theirs) == len(expected) + 1 or ours[-1] or theirs[-1]:
             fail("%d lines, %d and %d answered" % (len(expected), len(ours) - 1, len(theirs) - 1))
-    return counts, known
+    return counts, known, headers
 
 
 def compare_writers(form, reference, number, seed):
     """The requests to the writer of a format: every answer, each refusal number reached. How often each number was answered."""
     order = form.runs.ORDER
-    counts, known = compare_lines(form, reference, itertools.islice(form.runs.requests(seed), number), seed)
+    counts, known, headers = compare_lines(form, reference, itertools.islice(form.runs.requests(seed), number), seed)
     print("tests: %d lines to the %s writer answered as by tests/reference/%s, %d of them with an answer known before"
           % (sum(counts.values()), form.name, form.sources[-1], known))
     missing = [n for n in (0, *order) if not counts.get(n)]
@@ -360,6 +381,8 @@ def compare_writers(form, reference, number, seed):
     others = sorted(set(counts) - {0, "none", *order}, key=str)
     if others or 2 * known < sum(counts.values()):
         fail("the %s writer said %s, and %d answers were known before" % (form.name, others, known))
+    if form is BOARD:
+        each_header("written", headers)
     return {number: times for number, times in counts.items() if number != "none"}
 
 
@@ -375,8 +398,9 @@ def pair_runs(made):
 
 
 def compare_choices(reference, number, seed):
-    """The pairs of images: which is chosen, with all of its bytes; each outcome reached."""
+    """The pairs of images: which is chosen, with all of its bytes; each outcome reached, and each image chosen with each header."""
     counts, known = {"firmware": 0, "eeprom": 0, "neither": 0}, 0
+    headers = {word: collections.Counter() for word in counts}
     for run, expected in pair_runs(itertools.islice(board_runs.pairs(seed), number)):
         ours, theirs = output(os.path.join(BIN, "choice_answers"), given=run), output(reference, "choice", given=run)
         for (mask, firmware, eeprom, said), a, b in answered(expected, ours, theirs):
@@ -385,13 +409,17 @@ def compare_choices(reference, number, seed):
                     f.write(board_runs.record(mask, firmware, eeprom))
                 fail("list %d, images in target/different.bin (made to be %s):\n%r\nreference:\n%r"
                      % (mask, said, shortened(a), shortened(b)))
-            counts[a.split(None, 2)[1].decode()] += 1
+            word = a.split(None, 2)[1].decode()
+            counts[word] += 1
+            headers[word][header_of(a)] += 1
             known += said is not None
     print("tests: %d pairs of images, the choice as by tests/reference/board_write.c, %d of them with an answer known before"
           % (sum(counts.values()), known))
     print("tests: chosen " + ", ".join("%s %d" % count for count in counts.items()))
     if not all(counts.values()) or 2 * known < sum(counts.values()):
         fail("of %d pairs %s were chosen, and %d answers were known before" % (number, counts, known))
+    for word in ("firmware", "eeprom"):
+        each_header("chosen as %s" % word, headers[word])
 
 
 def fixed(references, others):

@@ -30,11 +30,13 @@ struct field {
     enum form form;
 };
 
-/* Every fixed part, and every record, ends in its reserved bytes. Places are counted from the structure's or the record's start. */
+/* Every fixed part, and every record, ends in its reserved bytes; but those of the header follow its fixed part, and a Length may leave
+   them out. Places are counted from the structure's or the record's start. */
 struct kind {
     char signature[9];        /* eight bytes; a shorter one ends in zeros */
     int bit;                  /* its bit in a list, or EVERY: it counts as on every list */
-    unsigned reserved, fixed; /* where the reserved bytes start and end; the fixed part ends there too */
+    unsigned fixed;           /* where the fixed part ends */
+    unsigned reserved, end;   /* where the reserved bytes start and end */
     const char *data;         /* what follows the fixed part: its name, "records", or null if nothing follows */
     unsigned record_size, record_reserved;
     struct field fields[8], record[8]; /* at most seven; one without a name ends them */
@@ -44,33 +46,33 @@ enum { EVERY = -1 };
 enum { EEPROM, MAP, BOARD, PROMSIG, ACPI, FPGA, GPIO, CODEC, LOGO, MEMORY, NIC, UCODE, VIDEO, KINDS };
 
 static const struct kind kinds[KINDS] = {
-    [EEPROM] = {"$Eeprom$", EVERY, 0x20, 0x30, NULL, 0, 0,
+    [EEPROM] = {"$Eeprom$", EVERY, 0x20, 0x20, 0x30, NULL, 0, 0,
                 {{"StructLen", 0x10, 4, DECIMAL}, {"CrcLength", 0x18, 4, DECIMAL}, {"Version", 0x1C, 4, DECIMAL}}, {{0}}},
-    [MAP] = {"$EeprMap", EVERY, 0x2D, 0x30, "records", 0x20, 0x19,
+    [MAP] = {"$EeprMap", EVERY, 0x30, 0x2D, 0x30, "records", 0x20, 0x19,
              {{"PartLabel", 0x10, LABEL, LABELLED}, {"BlkLength", 0x20, 4, DECIMAL}, {"PageSize", 0x24, 2, DECIMAL},
               {"PartSize", 0x26, 4, DECIMAL}, {"BusNumber", 0x2A, 1, DECIMAL}, {"Master", 0x2B, 1, DECIMAL},
               {"Speed", 0x2C, 1, DECIMAL}},
              {{"MapLabel", 0x00, LABEL, LABELLED}, {"Length", 0x10, 4, DECIMAL}, {"Offset", 0x14, 4, DECIMAL},
               {"Address", 0x18, 1, HEX}}},
-    [BOARD] = {"$BrdInfo", EVERY, 0x4D, 0x60, NULL, 0, 0,
+    [BOARD] = {"$BrdInfo", EVERY, 0x60, 0x4D, 0x60, NULL, 0, 0,
                {{"ManuName", 0x10, LABEL, NAME}, {"BrdName", 0x20, LABEL, NAME}, {"BrdSerial", 0x30, LABEL, NAME},
                 {"BoardId", 0x40, 4, HEX}, {"FabId", 0x44, 4, HEX}, {"EcId", 0x48, 4, HEX}, {"BoardType", 0x4C, 1, DECIMAL}},
                {{0}}},
-    [PROMSIG] = {"$PromSig", EVERY, 0x12, 0x20, "EepromSig", 0, 0, {{"HashType", 0x10, 2, HEX}}, {{0}}},
-    [ACPI] = {"$AcpiTbl", 8, 0x10, 0x20, "AcpiTbl", 0, 0, {{0}}, {{0}}},
-    [FPGA] = {"$FPGAnfo", 9, 0x13, 0x20, "FpgaData", 0, 0,
+    [PROMSIG] = {"$PromSig", EVERY, 0x20, 0x12, 0x20, "EepromSig", 0, 0, {{"HashType", 0x10, 2, HEX}}, {{0}}},
+    [ACPI] = {"$AcpiTbl", 8, 0x20, 0x10, 0x20, "AcpiTbl", 0, 0, {{0}}, {{0}}},
+    [FPGA] = {"$FPGAnfo", 9, 0x20, 0x13, 0x20, "FpgaData", 0, 0,
               {{"DataType", 0x10, 1, DECIMAL}, {"DevNum", 0x11, 1, DECIMAL}, {"FuncNum", 0x12, 1, DECIMAL}}, {{0}}},
-    [GPIO] = {"$GpioDat", 10, 0x10, 0x20, "records", 0x30, 0x22, {{0}},
+    [GPIO] = {"$GpioDat", 10, 0x20, 0x10, 0x20, "records", 0x30, 0x22, {{0}},
               {{"GpioLabel", 0x00, LABEL, LABELLED}, {"Length", 0x10, 4, DECIMAL}, {"Offset", 0x14, 4, DECIMAL},
                {"AndData", 0x18, 4, HEX}, {"OrData", 0x1C, 4, HEX}, {"DataSize", 0x20, 1, DECIMAL},
                {"DataType", 0x21, 1, DECIMAL}}},
-    [CODEC] = {"$HdCodec", 11, 0x10, 0x20, "HdaCodec", 0, 0, {{0}}, {{0}}},
-    [LOGO] = {"$Logo$", 12, 0x10, 0x20, "LogoData", 0, 0, {{0}}, {{0}}},
-    [MEMORY] = {"$MemCnfg", 13, 0x12, 0x20, "MemData", 0, 0, {{"SpdSlot", 0x10, 2, HEX}}, {{0}}},
-    [NIC] = {"$MacInfo", 14, 0x20, 0x30, "NicData", 0, 0,
+    [CODEC] = {"$HdCodec", 11, 0x20, 0x10, 0x20, "HdaCodec", 0, 0, {{0}}, {{0}}},
+    [LOGO] = {"$Logo$", 12, 0x20, 0x10, 0x20, "LogoData", 0, 0, {{0}}, {{0}}},
+    [MEMORY] = {"$MemCnfg", 13, 0x20, 0x12, 0x20, "MemData", 0, 0, {{"SpdSlot", 0x10, 2, HEX}}, {{0}}},
+    [NIC] = {"$MacInfo", 14, 0x30, 0x20, 0x30, "NicData", 0, 0,
              {{"NicId", 0x10, 8, NAME}, {"MacAddr", 0x18, 6, COLONS}, {"NicNum", 0x1E, 2, DECIMAL}}, {{0}}},
-    [UCODE] = {"$uCode$", 15, 0x10, 0x20, "UcodeData", 0, 0, {{0}}, {{0}}},
-    [VIDEO] = {"$Video$", 16, 0x10, 0x20, "VideoData", 0, 0, {{0}}, {{0}}},
+    [UCODE] = {"$uCode$", 15, 0x20, 0x10, 0x20, "UcodeData", 0, 0, {{0}}, {{0}}},
+    [VIDEO] = {"$Video$", 16, 0x20, 0x10, 0x20, "VideoData", 0, 0, {{0}}, {{0}}},
 };
 
 /* what codes mean, from 0 on; a signed hash has HashType's bit 15 set */
@@ -166,23 +168,24 @@ static uint32_t label_broken_at(const struct board *b, uint32_t place) {
 /* ---- the rules: each answers the smallest place where it is broken, or NOWHERE, and counts on those before it ---- */
 
 static uint32_t rule_20(struct board *b) {
-    return b->lent < HEADER || b->lent > LONGEST ? 0 : NOWHERE;
+    return b->lent < SHORT_HEADER || b->lent > LONGEST ? 0 : NOWHERE;
 }
 
 static uint32_t rule_21(struct board *b) {
-    bool good = kind_at(b, 0) == &kinds[EEPROM] && number(b, 0x08, 2) == 1 && number(b, 0x0C, 4) == HEADER;
+    b->header = number(b, 0x0C, 4);
+    bool good = kind_at(b, 0) == &kinds[EEPROM] && number(b, 0x08, 2) == 1 && is_header(b->header);
     return good ? NOWHERE : 0;
 }
 
 static uint32_t rule_22(struct board *b) {
     b->length = number(b, 0x10, 4);
-    return b->length < HEADER || b->length > b->lent ? 0x10 : NOWHERE;
+    return b->length < b->header || b->length > b->lent ? 0x10 : NOWHERE;
 }
 
 /* The walk: at an end that is not StructLen another structure is due, at that end rounded up. It may be due past StructLen. */
 static uint32_t rule_23(struct board *b) {
-    uint32_t end = HEADER;
-    b->spans[0] = (struct span){0, HEADER, &kinds[EEPROM]};
+    uint32_t end = b->header;
+    b->spans[0] = (struct span){0, b->header, &kinds[EEPROM]};
     for (b->count = 1; end != b->length; b->count++) {
         uint32_t place = round_up(end);
         if (place + HEAD > b->length || b->image[place] != '$')
@@ -312,13 +315,14 @@ static uint32_t first_nonzero(const struct board *b, uint32_t from, uint32_t to)
     return NOWHERE;
 }
 
-/* Reserved bytes that are not wholly within their structure's Length are not read: rule 33 answers for them. */
+/* Reserved bytes that are not wholly within their structure's Length are not read: rule 33 answers for them, and the short header has
+   none. */
 static uint32_t rule_32(struct board *b) {
     for (unsigned i = 0; i < b->count; i++) {
         const struct span *s = &b->spans[i];
-        if (!is_known(b, s) || minor_of(b, s) != 0 || s->length < s->kind->fixed)
+        if (!is_known(b, s) || minor_of(b, s) != 0 || s->length < s->kind->end)
             continue;
-        uint32_t bad = first_nonzero(b, s->place + s->kind->reserved, s->place + s->kind->fixed);
+        uint32_t bad = first_nonzero(b, s->place + s->kind->reserved, s->place + s->kind->end);
         for (unsigned k = 0; k < record_count(s) && bad == NOWHERE; k++)
             bad = first_nonzero(b, record_place(s, k) + s->kind->record_reserved, record_place(s, k + 1));
         if (bad != NOWHERE)
@@ -508,9 +512,9 @@ static void list_item(const struct board *b, const struct span *s) {
 /* what the number of a refusal says: those of the judge and of the writer */
 static const char *words_of(unsigned number) {
     switch (number) {
-    case 20: return "fewer than 48 bytes, or more than 65536";
+    case 20: return "fewer than 32 bytes, or more than 65536";
     case 21: return "the header has another signature, VerMajor or Length";
-    case 22: return "StructLen is below 48 or above the number of bytes";
+    case 22: return "StructLen is below the header's Length or above the number of bytes";
     case 23: return "no structure where one is due";
     case 24: return "a byte between structures is not zero";
     case 25: return "a structure is missing, or in the wrong order";

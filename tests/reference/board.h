@@ -10,7 +10,8 @@
 
 enum {
     HEAD = 0x10,           /* the generic head of a structure */
-    HEADER = 0x30,         /* the structure $Eeprom$ */
+    SHORT_HEADER = 0x20,   /* the structure $Eeprom$ without its Reserved field */
+    LONG_HEADER = 0x30,    /* the same with it */
     LABEL = 0x10,          /* a label, or a board's name */
     LONGEST = 0x10000,     /* an image */
     MOST = LONGEST / HEAD, /* structures in an image */
@@ -33,6 +34,11 @@ static inline struct answer accept(unsigned value) {
     return (struct answer){0, 0, value};
 }
 
+/* whether $Eeprom$ may have this Length */
+static inline bool is_header(uint32_t length) {
+    return length == SHORT_HEADER || length == LONG_HEADER;
+}
+
 /* a structure: its first byte's place, its Length, and its kind or null for a signature that is none of the thirteen */
 struct span {
     uint32_t place, length;
@@ -45,6 +51,7 @@ struct board {
     size_t lent;
     uint32_t list;
     struct answer judged;
+    uint32_t header;         /* Length of $Eeprom$; set by rule 21 */
     uint32_t length;         /* StructLen; set by rule 22 */
     unsigned count;          /* structures; set by rule 23 with their places */
     struct span spans[MOST];

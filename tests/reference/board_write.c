@@ -35,7 +35,7 @@ static void print_spaced(const uint8_t *bytes, size_t length) {
 /* ---- the writer ---- */
 
 /* the parts that a writer is given */
-enum { VERSION, MAP_FIELDS, RECORDS, BOARD_FIELDS, FURTHER, PARTS };
+enum { HEADER, VERSION, MAP_FIELDS, RECORDS, BOARD_FIELDS, FURTHER, PARTS };
 
 enum {
     GIVEN_RECORD = LABEL + 1, /* a label and an address */
@@ -64,12 +64,17 @@ static void put_record(uint8_t *to, const uint8_t *given, uint32_t offset) {
     to[0x18] = given[LABEL];
 }
 
+/* the Length of $Eeprom$ that is asked for */
+static uint32_t header_of(const struct bytes given[PARTS]) {
+    return given[HEADER].at[0];
+}
+
 /* The image but for its check fields. Those, and the reserved bytes, are zero. */
 static void lay(const struct bytes given[PARTS], struct bytes image) {
-    uint32_t records = (uint32_t)(given[RECORDS].length / GIVEN_RECORD);
-    uint8_t *map = image.at + HEADER, *board = map + MAP_FIXED + RECORD * records;
+    uint32_t header = header_of(given), records = (uint32_t)(given[RECORDS].length / GIVEN_RECORD);
+    uint8_t *map = image.at + header, *board = map + MAP_FIXED + RECORD * records;
     memset(image.at, 0, image.length);
-    put_head(image.at, "$Eeprom$", HEADER);
+    put_head(image.at, "$Eeprom$", header);
     put(image.at + 0x10, (uint32_t)image.length, 4);
     memcpy(image.at + 0x1C, given[VERSION].at, given[VERSION].length);
     put_head(map, "$EeprMap", MAP_FIXED + RECORD * records);
@@ -102,7 +107,7 @@ static struct answer write_image(const struct bytes given[PARTS], struct bytes b
     if (given[RECORDS].length % GIVEN_RECORD != 0)
         return refuse(46, 0);
     size_t records = given[RECORDS].length / GIVEN_RECORD;
-    size_t length = HEADER + MAP_FIXED + RECORD * records + BOARD_LENGTH + given[FURTHER].length;
+    size_t length = header_of(given) + MAP_FIXED + RECORD * records + BOARD_LENGTH + given[FURTHER].length;
     if (length > LONGEST)
         return refuse(40, 0);
     if (length > buffer.length)
@@ -125,8 +130,8 @@ enum { MOST_GIVEN = 65600 }; /* bytes of a buffer, of records and of further byt
 /* how many bytes each part may have */
 static const struct {
     size_t least, most;
-} sizes[PARTS] = {[VERSION] = {4, 4}, [MAP_FIELDS] = {29, 29}, [RECORDS] = {0, MOST_GIVEN}, [BOARD_FIELDS] = {61, 61},
-                  [FURTHER] = {0, MOST_GIVEN}};
+} sizes[PARTS] = {[HEADER] = {1, 1}, [VERSION] = {4, 4}, [MAP_FIELDS] = {29, 29}, [RECORDS] = {0, MOST_GIVEN},
+                  [BOARD_FIELDS] = {61, 61}, [FURTHER] = {0, MOST_GIVEN}};
 
 struct request {
     size_t room;
@@ -200,7 +205,7 @@ static bool parse_request(struct line line, struct request *request) {
             return false;
         request->parts[i].length = count;
     }
-    return line.at == line.end;
+    return line.at == line.end && is_header(request->parts[HEADER].bytes[0]);
 }
 
 static void answer_request(const struct request *request) {

@@ -19,7 +19,7 @@ use Rattle.board_fields.specs.Reserved.{reservedUsed}
 use Rattle.board_layout.specs.Layout.{shapeAt, endAt, round16, next, mapAt, boardAt, laterAt, records}
 use Rattle.board_layout.specs.Shapes.{listedShape, shapeOf}
 use Rattle.board_records.specs.Records.{badMapRecord, repeatedLabel}
-use Rattle.board_rules.specs.Examples.{zeros, image, logo}
+use Rattle.board_rules.specs.Examples.{zeros, image, logo, short, eeprMap, brdInfo}
 use Rattle.board_rules.specs.Judged.{judged}
 use Rattle.board_rules.specs.Rules.{rule20, rule21, rule22, rule23, rule24, rule25, rule26, rule27, rule28, rule29, rule30, rule31, rule32, rule33, rule34, misplaced, gapUsed, expected, outOfOrder, promSigAt, covered, checkOver}
 use Rattle.chain.specs.Chain.{visit, chain}
@@ -87,6 +87,29 @@ items : map (itemNumbered full case13) (0 ∷ 1 ∷ 2 ∷ 3 ∷ [])
     ∷ []
 unfolding itemNumbered mapRecordNumbered gpioRecordNumbered itemAt restAt eepromAt eeprMapAt brdInfoAt mapRecordAt judged rule20 rule21 rule22 rule23 rule24 rule25 rule26 rule27 rule28 rule29 rule30 rule31 rule32 rule33 rule34 misplaced gapUsed expected outOfOrder promSigAt covered checkOver badMapHead badBoardHead badPromSigHead badHash badHashOf hashSize badMap badMapField badMapRecord repeatedLabel badBoardType reservedUsed badInside shapeAt shapeOf listedShape endAt round16 next mapAt boardAt laterAt records visit chain first nth tab le16 le32 le64 sixteenAt nonzero isText isLabelText textEnd badLabel all crc32 shift shifts step32
 items = refl
+
+-- ---- with the short header: item 0 shows Length 20h and data length 10h, item 1 lies at 20h and its records at 50h, item 2 at 70h
+abbrev short13 : List ℕ
+short13 = short 0xD0 0xEB3F8F78 0xD0 ++ eeprMap 2 ++ brdInfo 0x60 0
+
+-- the place and the data length of an item that is shown
+abbrev lies : ItemAnswer → ℕ × ℕ
+lies (ItemAnswer.Shown v) = (v .place, v .length)
+lies (ItemAnswer.Refused r) = (0, 0)
+
+short-header : itemNumbered full short13 0
+    ≡ ItemAnswer.Shown (record {
+      signature = signatures.eeprom;
+      place = 0;
+      length = 0x10;
+      item = Item.Known (record { major = 1; minor = 0; length = 0x20; fields = Fields.Eeprom (record { structlen = 0xD0; crclength = 0xD0; version = 4 }) });
+    })
+unfolding itemNumbered mapRecordNumbered gpioRecordNumbered itemAt restAt eepromAt eeprMapAt brdInfoAt mapRecordAt judged rule20 rule21 rule22 rule23 rule24 rule25 rule26 rule27 rule28 rule29 rule30 rule31 rule32 rule33 rule34 misplaced gapUsed expected outOfOrder promSigAt covered checkOver badMapHead badBoardHead badPromSigHead badHash badHashOf hashSize badMap badMapField badMapRecord repeatedLabel badBoardType reservedUsed badInside shapeAt shapeOf listedShape endAt round16 next mapAt boardAt laterAt records visit chain first nth tab le16 le32 le64 sixteenAt nonzero isText isLabelText textEnd badLabel all crc32 shift shifts step32
+short-header = refl
+
+short-places : map (λ i. lies (itemNumbered full short13 i)) (1 ∷ 2 ∷ []) ≡ (0x20, 0x40) ∷ (0x70, 0x50) ∷ []
+unfolding itemNumbered mapRecordNumbered gpioRecordNumbered itemAt restAt eepromAt eeprMapAt brdInfoAt mapRecordAt judged rule20 rule21 rule22 rule23 rule24 rule25 rule26 rule27 rule28 rule29 rule30 rule31 rule32 rule33 rule34 misplaced gapUsed expected outOfOrder promSigAt covered checkOver badMapHead badBoardHead badPromSigHead badHash badHashOf hashSize badMap badMapField badMapRecord repeatedLabel badBoardType reservedUsed badInside shapeAt shapeOf listedShape endAt round16 next mapAt boardAt laterAt records visit chain first nth tab le16 le32 le64 sixteenAt nonzero isText isLabelText textEnd badLabel all crc32 shift shifts step32
+short-places = refl
 
 -- ---- the one record of the map, and none of number 1; no item holds GPIO data
 records-of-map : map (mapRecordNumbered full case13) (0 ∷ 1 ∷ [])

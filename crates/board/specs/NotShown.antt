@@ -26,6 +26,10 @@ module _ (k : Kinds) (s : List ℕ) where
   abbrev pub Raised : ℕ → Type 0
   Raised p = Known p × (0 < minorAt s p)
 
+  -- its Length covers the row Reserved of its table: "A field not wholly within its structure's Length is not read"
+  abbrev pub Covers : ℕ → Type 0
+  Covers p = p + reservedTo (shapeAt s p) ≤ endAt s p
+
   -- the place lies "inside" a structure that the list does not know: in "its data: .. past the generic head"
   abbrev pub InsideUnknown : ℕ → Type 0
   InsideUnknown q = Inside (structures s) Unknown (λ p. p + headSize) (endAt s) q
@@ -40,7 +44,7 @@ module _ (k : Kinds) (s : List ℕ) where
     -- "An item not known shows only its kind, place and length."
     unknown : InsideUnknown q → NotShown q
     -- "A known one shows each field of its table but reserved bytes": the row Reserved of its table, and of its records'
-    reserved : Inside (structures s) Raised (λ p. p + reservedFrom (shapeAt s p)) (λ p. p + reservedTo (shapeAt s p)) q → NotShown q
+    reserved : Inside (structures s) (λ p. Raised p × Covers p) (λ p. p + reservedFrom (shapeAt s p)) (λ p. p + reservedTo (shapeAt s p)) q → NotShown q
     recordReserved : (which : Records) → Inside (structures s) (λ p. Raised p × HasRecords which (shapeAt s p) × InRecord which q p) (λ p. p) (endAt s) q → NotShown q
     -- "what follows the fields is shown by place and length", and does not consist of records
     following : Inside (structures s) (λ p. Known p × ((which : Records) → HasRecords which (shapeAt s p) → ⊥)) (λ p. p + reservedTo (shapeAt s p)) (endAt s) q

@@ -8,6 +8,8 @@ use lib.Dec.{ltb}
 use Rattle.board_layout.specs.Places.{VerMajor, VerMinor, Length, headSize, StructLen, MapData, mapRecordSize, GpioData, gpioRecordSize}
 use Rattle.board_layout.specs.Shapes.{shapeOf}
 use Rattle.board_layout.specs.declared.Head.{Head}
+use Rattle.board_layout.specs.declared.Header.{Header}
+use Rattle.board_layout.specs.declared.Header.the-variants.{Short, Long}
 use Rattle.board_layout.specs.declared.Records.{Records}
 use Rattle.board_layout.specs.declared.Records.the-variants.{Map, Gpio}
 use Rattle.board_layout.specs.declared.Shape.{Shape}
@@ -56,6 +58,11 @@ next s p = round16 (p + covers (lengthAt s p))
 -- the places of the structures: from 0 on, as long as they lie before StructLen
 abbrev pub structures : List ℕ → List ℕ
 structures s = chain (next s) (structLen s) 0
+
+-- the Lengths that a header may have. Paper 02, R-6: "Both 20h and 30h are now good."
+abbrev pub headerLength : Header → ℕ
+headerLength Short = 0x20
+headerLength Long = 0x30
 
 -- where the second structure, the third, and those after it start
 unfoldable pub mapAt : List ℕ → ℕ

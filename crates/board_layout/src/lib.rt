@@ -22,7 +22,7 @@ ghost use mathlib.Core.Path.{_≡_};
 ghost use Prim.Native.Nat.{_+_, _≤_, _<_};
 ghost use lib.ListN.{length, take, drop};
 ghost use Rattle.chain.specs.Nth.{nth};
-ghost use Rattle.board_layout.specs.Layout.{headAt, majorAt, minorAt, lengthAt, shapeAt, structLen, endAt, covers, round16, next, structures, mapAt, boardAt, laterAt, dataOffset, recordSize, records};
+ghost use Rattle.board_layout.specs.Layout.{headAt, majorAt, minorAt, lengthAt, shapeAt, structLen, endAt, covers, round16, next, structures, headerLength, mapAt, boardAt, laterAt, dataOffset, recordSize, records};
 ghost use Rattle.board_layout.specs.Shapes.{listedShape, shapeOf, knows};
 
 // Which table of the layout paper a structure has: its signature's, of the listed ones with VerMajor 1 only. Other: none.
@@ -49,6 +49,12 @@ pub struct Head {
     pub major: u16,
     pub minor: u16,
     pub length: u32,
+}
+
+// The two headers: one that ends before its Reserved field, and one that covers it.
+pub enum Header {
+    Short,
+    Long,
 }
 
 // The records of a map, or of GPIO data.
@@ -271,6 +277,16 @@ pub fn structure_place(image: &[u8], number: usize) -> Found
         at = next_place(image, at as u32);
     }
     Found::Nothing
+}
+
+// The Length of a header.
+pub fn header_length(header: Header) -> u8
+    ensures { λ r. ⌜ r ≡ headerLength header ⌝ }
+{
+    match header {
+        Header::Short => 0x20,
+        Header::Long => 0x30,
+    }
 }
 
 // Where the records of a structure begin, counted from its start.

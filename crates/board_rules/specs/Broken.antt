@@ -1,5 +1,5 @@
 -- Rules 20 to 34 as the rows of the papers' table: at which places each is broken, with a case for each clause of its wording, in its order. Paper 01, "Refusal
--- numbers and their order", and paper 02, R-2. What the judge looks for (Rules.antt) is proved to be the smallest such place. Assumes nothing.
+-- numbers and their order", and paper 02, R-2 and R-6. What the judge looks for (Rules.antt) is proved to be the smallest such place. Assumes nothing.
 use Prim.Native.Nat.{ℕ, _+_, _*_, _≤_, _<_}
 use mathlib.Core.Bool.{true, false}
 use mathlib.Core.List.{List, [], _∷_}
@@ -60,20 +60,20 @@ module _ (k : Kinds) (s : List ℕ) where
     toPromSig : (p : ℕ) → PromSigAt p → n ≡ p + 0x20 → Expected n
 
   -- ---- the rows: rule broken, place
-  -- 20: under 30h or over 65,536 bytes lent; 0
+  -- 20: under 20h or over 65,536 bytes lent; 0. "the smallest lent image is 20h"
   pub data Broken20 (q : ℕ) : Type 0 where
-    tooFewLent : q ≡ 0 → length s < 0x30 → Broken20 q
+    tooFewLent : q ≡ 0 → length s < 0x20 → Broken20 q
     tooManyLent : q ≡ 0 → 65536 < length s → Broken20 q
 
-  -- 21: `$Eeprom$` signature, VerMajor 1 or Length 30h; 0
+  -- 21: `$Eeprom$` signature, VerMajor 1 or Length 20h or 30h; 0. "Both 20h and 30h are now good."
   pub data Broken21 (q : ℕ) : Type 0 where
     headerSignature : q ≡ 0 → (signatureAt s 0 ≡ eeprom → ⊥) → Broken21 q
     headerMajor : q ≡ 0 → (majorAt s 0 ≡ 1 → ⊥) → Broken21 q
-    headerLengthOther : q ≡ 0 → (lengthAt s 0 ≡ 0x30 → ⊥) → Broken21 q
+    headerLengthOther : q ≡ 0 → (lengthAt s 0 ≡ 0x20 → ⊥) → (lengthAt s 0 ≡ 0x30 → ⊥) → Broken21 q
 
-  -- 22: StructLen under 30h or above what is lent; 10h
+  -- 22: "StructLen under the header's Length, or above what is lent"; 10h
   pub data Broken22 (q : ℕ) : Type 0 where
-    structLenUnder : q ≡ StructLen → structLen s < 0x30 → Broken22 q
+    structLenUnder : q ≡ StructLen → structLen s < lengthAt s 0 → Broken22 q
     structLenAbove : q ≡ StructLen → length s < structLen s → Broken22 q
 
   -- 23: where a structure is due: under 16 bytes left before StructLen, no '$' first, Length under 16, or end past StructLen; its start

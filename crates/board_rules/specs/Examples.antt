@@ -1,4 +1,5 @@
--- The judge's answers by computation: an image of case 13's layout (one record: map at 30h, board at 80h, StructLen E0h), and what one change makes of it.
+-- The judge's answers by computation: an image of case 13's layout (one record: map at 30h, board at 80h, StructLen E0h), the same with the short header (map at
+-- 20h, board at 70h, StructLen D0h), and what one change makes of them.
 -- Further cases are run. Assumes nothing.
 use Prim.Native.Nat.{ℕ, _+_, _*_, _/_, _%_}
 use mathlib.Core.List.{List, [], _∷_, _++_, map}
@@ -39,10 +40,17 @@ four n = n % 256 ∷ n / 256 % 256 ∷ n / 65536 % 256 ∷ n / 16777216 % 256 �
 abbrev pub head : List ℕ → ℕ → List ℕ
 head signature length = signature ++ (1 ∷ 0 ∷ 0 ∷ 0 ∷ four length)
 
--- $Eeprom$, Version 4
+-- $Eeprom$ of this Length up to Reserved, Version 4
+abbrev pub headed : ℕ → ℕ → ℕ → ℕ → List ℕ
+headed length end check covers =
+    head (0x24 ∷ 0x45 ∷ 0x65 ∷ 0x70 ∷ 0x72 ∷ 0x6F ∷ 0x6D ∷ 0x24 ∷ []) length ++ four end ++ four check ++ four covers ++ four 4
+
+-- the long header, with Reserved, and the short one
 abbrev pub header : ℕ → ℕ → ℕ → List ℕ
-header end check covers =
-    head (0x24 ∷ 0x45 ∷ 0x65 ∷ 0x70 ∷ 0x72 ∷ 0x6F ∷ 0x6D ∷ 0x24 ∷ []) 0x30 ++ four end ++ four check ++ four covers ++ four 4 ++ zeros 16
+header end check covers = headed 0x30 end check covers ++ zeros 16
+
+abbrev pub short : ℕ → ℕ → ℕ → List ℕ
+short end check covers = headed 0x20 end check covers
 
 -- $EeprMap: PartLabel "rig", BlkLength and PartSize 4,096, PageSize 32, Master 1; one record with this label, at address 50h
 abbrev pub labelled : List ℕ → ℕ → List ℕ
@@ -93,12 +101,19 @@ abbrev early : List Row
 early =
     -- 20: nothing lent, and a byte too few
     row [] (refusal 20 0)
-    ∷ row (zeros 0x2F) (refusal 20 0)
-    -- 21: another signature
-    ∷ row (zeros 0x30) (refusal 21 0)
+    ∷ row (zeros 0x1F) (refusal 20 0)
+    -- 21: another signature; a Length that is neither, below, between and above
+    ∷ row (zeros 0x20) (refusal 21 0)
+    ∷ row (headed 0x1F 0x20 0 0) (refusal 21 0)
+    ∷ row (headed 0x28 0x20 0 0 ++ zeros 16) (refusal 21 0)
+    ∷ row (headed 0x40 0x20 0 0 ++ zeros 16) (refusal 21 0)
     -- 22: StructLen is a byte too few, and above what is lent
     ∷ row (image 0x2F 0 0 []) (refusal 22 0x10)
     ∷ row (image 0xE1 0 0 []) (refusal 22 0x10)
+    -- 22: with the short header; and 2Fh bytes lent where Length is 30h, whatever StructLen is
+    ∷ row (short 0x1F 0 0) (refusal 22 0x10)
+    ∷ row (headed 0x30 0x2F 0 0 ++ zeros 15) (refusal 22 0x10)
+    ∷ row (headed 0x30 0x30 0 0 ++ zeros 15) (refusal 22 0x10)
     -- 23: no '$' where the fourth structure is due
     ∷ row (image 0xF0 0 0 (zeros 16)) (refusal 23 0xE0)
     -- 23: a structure ends at F8h and StructLen is FAh: another is due at 100h, past StructLen
@@ -109,6 +124,7 @@ early =
     ∷ row (image 0x120 0 0 (fan ++ (0 ∷ 0 ∷ 7 ∷ zeros 5) ++ logo 0x20 0)) (refusal 24 0xFA)
     -- 25: nothing after the header, a second map, `$PromSig` before another structure
     ∷ row (header 0x30 0 0) (refusal 25 0x30)
+    ∷ row (short 0x20 0 0) (refusal 25 0x20)
     ∷ row (image 0x130 0 0 (eeprMap 2)) (refusal 25 0xE0)
     ∷ row (image 0x130 0 0 (promSig 1 ++ logo 0x20 0)) (refusal 25 0xE0)
     -- 26: the board structure has a byte too many
@@ -124,6 +140,8 @@ abbrev checked : List Row
 checked =
     -- cases 10 and 13: the label is "top1", '$' and eleven zeros
     row (image 0xE0 0x971449AD 0xE0 []) (Accepted 3)
+    -- the same with the short header
+    ∷ row (short 0xD0 0xEB3F8F78 0xD0 ++ eeprMap 2 ++ brdInfo 0x60 0) (Accepted 3)
     -- bytes lent past StructLen
     ∷ row (image 0xE0 0x971449AD 0xE0 (1 ∷ 2 ∷ 3 ∷ [])) (Accepted 3)
     -- 27: one bit of Crc32; a CrcLength that Crc32 fits
@@ -140,23 +158,33 @@ checked-hold : map (λ (r : Row). judged full (r .image)) checked ≡ map (λ (r
 unfolding judged rule20 rule21 rule22 rule23 rule24 rule25 rule26 rule27 rule28 rule29 rule30 rule31 rule32 rule33 rule34 misplaced gapUsed expected outOfOrder promSigAt covered checkOver badMapHead badBoardHead badPromSigHead badHash badHashOf hashSize badMap badMapField badMapRecord repeatedLabel badBoardType reservedUsed badInside shapeAt shapeOf listedShape endAt round16 next mapAt boardAt laterAt records visit chain first tab le16 le32 le64 nonzero isText isLabelText textEnd badLabel all crc32 shift shifts step32
 checked-hold = refl
 
--- ---- rule 28, case 12: the board structure behind a map of n records, of which it reads the heads alone
-abbrev behind : ℕ → List ℕ
-behind n =
-    header 0 0 0
+-- ---- rule 28, case 12: the board structure behind a header and a map of n records, of which it reads the heads alone
+abbrev behind : List ℕ → ℕ → List ℕ
+behind first n =
+    first
     ++ head (0x24 ∷ 0x45 ∷ 0x65 ∷ 0x70 ∷ 0x72 ∷ 0x4D ∷ 0x61 ∷ 0x70 ∷ []) (0x30 + 0x20 * n)
     ++ zeros (0x20 + 0x20 * n)
     ++ brdInfo 0x60 0
 
-case-12 : map rule28 (behind 122 ∷ behind 123 ∷ []) ≡ Nothing ∷ At 0xFC0 ∷ []
+case-12 : map rule28 (behind (header 0 0 0) 122 ∷ behind (header 0 0 0) 123 ∷ []) ≡ Nothing ∷ At 0xFC0 ∷ []
 unfolding rule28 endAt round16 next mapAt boardAt tab le32
 case-12 = refl
+
+-- "122 map records remain the most: they end at FF0h with the short header", and 123 at 1010h
+short-12 : map rule28 (behind (short 0 0 0) 122 ∷ behind (short 0 0 0) 123 ∷ []) ≡ Nothing ∷ At 0xFB0 ∷ []
+unfolding rule28 endAt round16 next mapAt boardAt tab le32
+short-12 = refl
+
+short-ends : map (λ s. endAt s (boardAt s)) (behind (short 0 0 0) 122 ∷ behind (short 0 0 0) 123 ∷ []) ≡ 0xFF0 ∷ 0x1010 ∷ []
+unfolding endAt round16 next mapAt boardAt tab le32
+short-ends = refl
 
 -- ---- rules 30 and 31
 abbrev fields : List Row
 fields =
-    -- 30: Speed 4
+    -- 30: Speed 4, behind each header
     row (header 0xE0 0x433A538C 0xE0 ++ eeprMap 4 ++ brdInfo 0x60 0) (refusal 30 0x5C)
+    ∷ row (short 0xD0 0x3F119559 0xD0 ++ eeprMap 4 ++ brdInfo 0x60 0) (refusal 30 0x4C)
     -- 30, case 10: a label of sixteen zeros
     ∷ row (header 0xE0 0x8429D5EA 0xE0 ++ labelled (zeros 16) 2 ++ brdInfo 0x60 0) (refusal 30 0x60)
     -- 31: BoardType 2

@@ -1,5 +1,5 @@
--- Rules 20 to 34, each as the smallest place where it is broken. Paper 01, "Refusal numbers and their order", and paper 02, R-2. What 26 and 29 to 34 say of one
--- structure or record is in the crates board_fields and board_records. Assumes nothing.
+-- Rules 20 to 34, each as the smallest place where it is broken. Paper 01, "Refusal numbers and their order", and paper 02, R-2 and R-6. What 26 and 29 to 34
+-- say of one structure or record is in the crates board_fields and board_records. Assumes nothing.
 use Prim.Native.Nat.{ℕ, _+_, _-_}
 use mathlib.Core.Bool.{Bool, not, cond, _&&_, _||_}
 use mathlib.Core.List.{List, [], _∷_}
@@ -10,9 +10,10 @@ use Rattle.board_fields.specs.Heads.{badMapHead, badBoardHead, badPromSigHead}
 use Rattle.board_fields.specs.Inside.{badInside}
 use Rattle.board_fields.specs.Map.{badMap, badBoardType}
 use Rattle.board_fields.specs.Reserved.{reservedUsed}
-use Rattle.board_layout.specs.Layout.{signatureAt, majorAt, lengthAt, shapeAt, structLen, endAt, next, structures, mapAt, boardAt, laterAt, records}
+use Rattle.board_layout.specs.Layout.{signatureAt, majorAt, lengthAt, shapeAt, structLen, endAt, next, structures, headerLength, mapAt, boardAt, laterAt, records}
 use Rattle.board_layout.specs.Places.{headSize, StructLen, Crc32, CrcLength, EepromSig}
 use Rattle.board_layout.specs.Shapes.{knows}
+use Rattle.board_layout.specs.declared.Header.the-variants.{Short, Long}
 use Rattle.board_layout.specs.declared.Records.the-variants.{Map}
 use Rattle.board_layout.specs.declared.Shape.{Shape}
 use Rattle.board_records.specs.Records.{repeatedLabel}
@@ -28,26 +29,26 @@ use Rattle.octets.specs.Bytes.{byte, le32}
 use Rattle.octets.specs.Label.{dollar}
 use Rattle.octets.specs.Runs.{nonzero}
 
--- "`$Eeprom$` has Length 30h". Only rules 20 to 22 speak of it; all else reads the Length
-abbrev pub headerLength : ℕ
-headerLength = 0x30
-
--- 20: under 30h or over 65,536 bytes lent
+-- 20: under 20h or over 65,536 bytes lent
 unfoldable pub rule20 : List ℕ → Found
-rule20 s = checks (when (ltb (length s) headerLength) 0 ∷ when (ltb 65536 (length s)) 0 ∷ [])
+rule20 s = checks (when (ltb (length s) (headerLength Short)) 0 ∷ when (ltb 65536 (length s)) 0 ∷ [])
 
--- 21: `$Eeprom$` signature, VerMajor 1 or Length 30h
+-- "Both 20h and 30h are now good." Only rule 21 asks which Lengths these are; all else reads the header's
+abbrev pub isHeaderLength : ℕ → Bool
+isHeaderLength n = eqb n (headerLength Short) || eqb n (headerLength Long)
+
+-- 21: `$Eeprom$` signature, VerMajor 1 or Length 20h or 30h
 unfoldable pub rule21 : List ℕ → Found
 rule21 s =
     checks
     (when (not (eqb (signatureAt s 0) eeprom)) 0
     ∷ when (not (eqb (majorAt s 0) 1)) 0
-    ∷ when (not (eqb (lengthAt s 0) headerLength)) 0
+    ∷ when (not (isHeaderLength (lengthAt s 0))) 0
     ∷ [])
 
--- 22: StructLen under 30h or above what is lent
+-- 22: StructLen under the header's Length, or above what is lent
 unfoldable pub rule22 : List ℕ → Found
-rule22 s = checks (when (ltb (structLen s) headerLength) StructLen ∷ when (ltb (length s) (structLen s)) StructLen ∷ [])
+rule22 s = checks (when (ltb (structLen s) (lengthAt s 0)) StructLen ∷ when (ltb (length s) (structLen s)) StructLen ∷ [])
 
 -- 23: where a structure is due: under 16 bytes left before StructLen, no '$' first, Length under 16, or end past StructLen; its start.
 -- "at an end that is not StructLen, another is due": where that one would not start before StructLen, no bytes are left for it

@@ -27,7 +27,7 @@ ghost use lib.ListN.{length, drop};
 ghost use Rattle.board_layout.specs.Layout.{structures, mapAt, boardAt};
 ghost use Rattle.board_rules.specs.Findings.{laterOrder, Finds};
 ghost use Rattle.board_rules.specs.Judged.{rules, judged};
-ghost use Rattle.board_rules.specs.Rules.{rule21, rule25, rule26, rule27, rule28, rule29, expected, promSigAt, covered, checkOver};
+ghost use Rattle.board_rules.specs.Rules.{isHeaderLength, rule21, rule25, rule26, rule27, rule28, rule29, expected, promSigAt, covered, checkOver};
 ghost use Rattle.chain.specs.declared.Found.{Found};
 ghost use Rattle.verdict.specs.Verdict.{answer};
 
@@ -39,13 +39,20 @@ use walk::Findings;
 pub use walk::prom_sig;
 use walk::walk_all;
 
+// Whether a Length is that of a header.
+fn is_header_length(length: u32) -> bool
+    ensures { λ r. ⌜ r ≡ isHeaderLength length ⌝ }
+{
+    length == 0x20 || length == 0x30
+}
+
 // Rule 21: the header's signature, VerMajor and Length.
 fn bad_header(image: &[u8]) -> Found
     ensures { λ r. ⌜ r ≡ rule21 (now (image .entry)) ⌝ }
 {
     if le64_at(image, 0) == EEPROM {
         if major_at(image, 0) == 1 {
-            if length_at(image, 0) == 0x30 {
+            if is_header_length(length_at(image, 0)) {
                 return Found::Nothing;
             }
         }
@@ -268,7 +275,7 @@ fn judge_walk(image: &[u8], kinds: Kinds) -> Judged
 pub fn judge(image: &[u8], kinds: Kinds) -> Judged
     ensures { λ r. ⌜ r ≡ judged kinds (now (image .entry)) ⌝ }
 {
-    if image.len() < 0x30 {
+    if image.len() < 0x20 {
         return refused(20, 0);
     }
     if 65536 < image.len() {
@@ -277,11 +284,11 @@ pub fn judge(image: &[u8], kinds: Kinds) -> Judged
     if let Found::At(p) = bad_header(image) {
         return refused(21, p);
     }
-    let length = struct_len(image) as usize;
-    if length < 0x30 {
+    let end = struct_len(image);
+    if end < length_at(image, 0) {
         return refused(22, 0x10);
     }
-    if image.len() < length {
+    if image.len() < end as usize {
         return refused(22, 0x10);
     }
     judge_walk(image, kinds)

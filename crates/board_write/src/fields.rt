@@ -1,5 +1,6 @@
-// The fields of a request: Version, those of the map and those of the board.
+// The fields of a request: which header, Version, those of the map and those of the board.
 use board::BrdInfoFields;
+use board_layout::Header;
 use board_writer::MapFields;
 use console::request::Part;
 use console::request::bytes_of;
@@ -11,6 +12,7 @@ use octets::sixteen_at;
 // Whether all fields could be read, and the fields.
 pub struct Fields {
     pub good: bool,
+    pub header: Header,
     pub version: u32,
     pub map: MapFields,
     pub board: BrdInfoFields,
@@ -19,6 +21,19 @@ pub struct Fields {
 // Whether a part could be read, and has n bytes.
 fn exactly(part: Part, n: usize) -> bool {
     part.good && part.count == n
+}
+
+// Whether a byte is the Length of a header.
+fn is_header_length(length: u8) -> bool {
+    length == 0x20 || length == 0x30
+}
+
+// The header that has this Length.
+fn header_with(length: u8) -> Header {
+    if length == 0x20 {
+        return Header::Short;
+    }
+    Header::Long
 }
 
 // The fields of the map, as they lie in `$EeprMap` from 10h on.
@@ -47,18 +62,22 @@ fn board_fields(bytes: &[u8]) -> BrdInfoFields {
     }
 }
 
-// The fields that parts 1, 2 and 4 of a line give.
+// The fields that parts 1, 2, 3 and 5 of a line give.
 pub fn fields_of(line: &[u8]) -> Fields {
-    let mut first = [0u8; 4];
-    let version = bytes_of(line, 1, &mut first);
-    let mut second = [0u8; 29];
-    let map = bytes_of(line, 2, &mut second);
-    let mut fourth = [0u8; 61];
-    let board = bytes_of(line, 4, &mut fourth);
+    let mut first = [0u8; 1];
+    let header = bytes_of(line, 1, &mut first);
+    let mut second = [0u8; 4];
+    let version = bytes_of(line, 2, &mut second);
+    let mut third = [0u8; 29];
+    let map = bytes_of(line, 3, &mut third);
+    let mut fifth = [0u8; 61];
+    let board = bytes_of(line, 5, &mut fifth);
+    let whole = exactly(header, 1) && exactly(version, 4) && exactly(map, 29) && exactly(board, 61);
     Fields {
-        good: exactly(version, 4) && exactly(map, 29) && exactly(board, 61),
-        version: le32_at(&first, 0),
-        map: map_fields(&second),
-        board: board_fields(&fourth),
+        good: whole && is_header_length(first[0]),
+        header: header_with(first[0]),
+        version: le32_at(&second, 0),
+        map: map_fields(&third),
+        board: board_fields(&fifth),
     }
 }

@@ -1,5 +1,5 @@
-// Writes board images: for each line of standard input, from the length of a buffer, Version, the fields and records of the map, the fields of
-// the board and further bytes. docs/WRITING.md has the form of these lines and of the answers.
+// Writes board images: for each line of standard input, from the length of a buffer, which header, Version, the fields and records of the map,
+// the fields of the board and further bytes. docs/WRITING.md has the form of these lines and of the answers.
 use board_writer::write;
 use console::at_end;
 use console::complain;
@@ -20,7 +20,9 @@ const MOST: usize = 65600;
 
 // Has an image written to the buffer, and prints the answer with what the buffer then holds.
 fn put_image(fields: Fields, records: &[u8], further: &[u8], buffer: &mut [u8]) {
+    let header = fields.header;
     let answer = write(
+        header,
         fields.version,
         fields.map,
         records,
@@ -36,9 +38,9 @@ fn serve(line: &[u8]) -> bool {
     let room = number_of(line, 0, MOST as u32);
     let fields = fields_of(line);
     let mut records = [0u8; MOST];
-    let run = bytes_of(line, 3, &mut records);
+    let run = bytes_of(line, 4, &mut records);
     let mut further = [0u8; MOST];
-    let more = bytes_of(line, 5, &mut further);
+    let more = bytes_of(line, 6, &mut further);
     if room.good && fields.good && run.good && more.good {
         let mut buffer = [0xAAu8; MOST];
         put_image(
@@ -52,9 +54,9 @@ fn serve(line: &[u8]) -> bool {
     false
 }
 
-// One line, with five semicolons.
+// One line, with six semicolons.
 fn serve_line(line: &[u8]) {
-    if semicolons(line) == 5 {
+    if semicolons(line) == 6 {
         if serve(line) {
             return;
         }

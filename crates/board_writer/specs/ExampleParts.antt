@@ -6,6 +6,8 @@ use mathlib.Core.Path.{_≡_, refl}
 use lib.ListN.{replicate}
 use Rattle.board.specs.declared.BrdInfoFields.{BrdInfoFields}
 use Rattle.board_layout.specs.Layout.{round16, next}
+use Rattle.board_layout.specs.declared.Header.{Header}
+use Rattle.board_layout.specs.declared.Header.the-variants.{Short, Long}
 use Rattle.board_rules.specs.Examples as example
 use Rattle.board_rules.specs.Rules.{promSigAt, covered, checkOver}
 use Rattle.board_writer.specs.Image.{zeros, laidRecord, laidRecords, body, laid, crcLength, check, image}
@@ -55,9 +57,12 @@ board13 =
 abbrev pub top : ℕ → ℕ → List ℕ
 top digit address = 0x74 ∷ 0x6F ∷ 0x70 ∷ digit ∷ 0x24 ∷ zeros 11 ++ (address ∷ [])
 
--- with case 13's map and board
+-- with case 13's map and board, behind this header; and behind the long one
+abbrev pub behind : Header → List ℕ → List ℕ → Parts
+behind header records further = parts header 4 map13 records board13 further
+
 abbrev pub given : List ℕ → List ℕ → Parts
-given records further = parts 4 map13 records board13 further
+given = behind Long
 
 -- case 13: "top1" at address 50h, and nothing further
 abbrev pub record13 : List ℕ
@@ -66,13 +71,20 @@ record13 = top 0x31 0x50
 abbrev pub parts13 : Parts
 parts13 = given record13 []
 
+-- the same with the short header
+abbrev pub short13 : Parts
+short13 = behind Short record13 []
+
 -- ---- the images that are made
 abbrev pub image13 : List ℕ
 image13 = example.image 0xE0 0x9714_49AD 0xE0 []
 
+abbrev pub imageShort : List ℕ
+imageShort = example.short 0xD0 0xEB3F_8F78 0xD0 ++ example.eeprMap 2 ++ example.brdInfo 0x60 0
+
 -- two records: Offsets 0 and BlkLength
 abbrev pub parts2 : Parts
-parts2 = parts 4 (mapWith 8192) (record13 ++ top 0x32 0x51) board13 []
+parts2 = parts Long 4 (mapWith 8192) (record13 ++ top 0x32 0x51) board13 []
 
 abbrev map2 : List ℕ
 map2 =
@@ -93,10 +105,11 @@ imageSigned = example.image 0x110 0x6519_E838 0x100 (example.promSig 1)
 
 record Made : Type 0 where
   case13 : image parts13 ≡ image13
+  short : image short13 ≡ imageShort
   two : image parts2 ≡ image2
   logo : image (given record13 (example.logo 0x20 0)) ≡ imageLogo
   signed : image (given record13 (example.promSig 1)) ≡ imageSigned
 
 made : Made
 unfolding image laid body laidRecords laidRecord crcLength check spelled sixteenAt tab flatten covered checkOver promSigAt first chain visit next round16 le32 le64 crc32 shift shifts step32
-made = record { case13 = refl; two = refl; logo = refl; signed = refl }
+made = record { case13 = refl; short = refl; two = refl; logo = refl; signed = refl }

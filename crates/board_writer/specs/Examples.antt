@@ -13,11 +13,12 @@ use Rattle.board_fields.specs.Map.{badMap, badMapField, badBoardType}
 use Rattle.board_fields.specs.Reserved.{reservedUsed}
 use Rattle.board_layout.specs.Layout.{shapeAt, endAt, round16, next, mapAt, boardAt, laterAt, records}
 use Rattle.board_layout.specs.Shapes.{listedShape, shapeOf}
+use Rattle.board_layout.specs.declared.Header.the-variants.{Short, Long}
 use Rattle.board_records.specs.Records.{badMapRecord, repeatedLabel}
 use Rattle.board_rules.specs.Examples as example
 use Rattle.board_rules.specs.Judged.{judged}
 use Rattle.board_rules.specs.Rules.{rule20, rule21, rule22, rule23, rule24, rule25, rule26, rule27, rule28, rule29, rule30, rule31, rule32, rule33, rule34, misplaced, gapUsed, expected, outOfOrder, promSigAt, covered, checkOver}
-use Rattle.board_writer.specs.ExampleParts.{blank, mapWith, board13, top, given, record13, parts13, image13, parts2, image2, imageLogo, imageSigned}
+use Rattle.board_writer.specs.ExampleParts.{blank, mapWith, board13, top, behind, given, record13, parts13, short13, image13, imageShort, parts2, image2, imageLogo, imageSigned}
 use Rattle.board_writer.specs.Image.{zeros, laidRecord, laidRecords, body, laid, crcLength, check, image}
 use Rattle.board_writer.specs.Parts.{Parts, parts}
 use Rattle.board_writer.specs.PartsOf.{recordsOf, partsOf}
@@ -65,8 +66,12 @@ early =
     -- 40 at 65,537 bytes, before 41, and not at 65,536
     ∷ call (given record13 (zeros 65313)) 0 (refused 40 0) []
     ∷ call (given record13 (zeros 65312)) 0 (refused 41 0) []
+    -- sixteen bytes more fit behind the short header
+    ∷ call (behind Short record13 (zeros 65329)) 0 (refused 40 0) []
+    ∷ call (behind Short record13 (zeros 65328)) 0 (refused 41 0) []
     -- 41: a byte too short; said before what the reader says
     ∷ call parts13 0xDF (refused 41 0) []
+    ∷ call short13 0xCF (refused 41 0) []
     ∷ call (given [] []) 0 (refused 41 0) []
     ∷ []
 
@@ -79,13 +84,14 @@ abbrev calls : List Call
 calls =
     -- two records, with Offsets 0 and BlkLength
     call parts2 0x100 (says 0x100) image2
-    -- no record: 26 at the map
+    -- no record: 26 at the map, behind each header
     ∷ call (given [] []) 0xE0 (refused 26 0x30) []
+    ∷ call (behind Short [] []) 0xE0 (refused 26 0x20) []
     -- PartSize of two records where one is given: 30 at the field. An address over 7Fh
-    ∷ call (parts 4 (mapWith 8192) record13 board13 []) 0xE0 (refused 30 0x56) []
+    ∷ call (parts Long 4 (mapWith 8192) record13 board13 []) 0xE0 (refused 30 0x56) []
     ∷ call (given (top 0x31 0x80) []) 0xE0 (refused 30 0x78) []
     -- two records of one label: 34 at the second
-    ∷ call (parts 4 (mapWith 8192) (top 0x31 0x50 ++ top 0x31 0x51) board13 []) 0x100 (refused 34 0x80) []
+    ∷ call (parts Long 4 (mapWith 8192) (top 0x31 0x50 ++ top 0x31 0x51) board13 []) 0x100 (refused 34 0x80) []
     -- further bytes: zeros are 23 where a structure is due; a `$Logo$` is written
     ∷ call (given record13 (zeros 16)) 0xF0 (refused 23 0xE0) []
     ∷ call (given record13 (example.logo 0x20 0)) 0x100 (says 0x100) imageLogo
@@ -98,14 +104,28 @@ calls-hold : map outcome calls ≡ map foretold calls
 unfolding written checked reviewed image laid body laidRecords laidRecord crcLength check spelled sixteenAt tab flatten covered checkOver promSigAt first chain visit next round16 le32 le64 crc32 shift shifts step32 judged rule20 rule21 rule22 rule23 rule24 rule25 rule26 rule27 rule28 rule29 rule30 rule31 rule32 rule33 rule34 misplaced gapUsed expected outOfOrder endAt mapAt boardAt laterAt shapeAt shapeOf listedShape records badMapHead badBoardHead badPromSigHead badHash badHashOf hashSize badMap badMapField badMapRecord repeatedLabel badBoardType badInside reservedUsed badLabel textEnd isLabelText isText nonzero difference sameRun all le16
 calls-hold = refl
 
--- ---- case 13: what laws/Written and laws/Rebuilt claim of every image, here by computation alone; and an image with a `$PromSig`, which the reader accepts
+-- ---- case 13 with each header: what laws/Written and laws/Rebuilt claim of every image, here by computation alone; and an image with a `$PromSig`, which the
+-- reader accepts
 pub record Computed : Type 0 where
   pub written13 : written parts13 (blank 0xE2) ≡ (WriteAnswer.Length 0xE0, image13 ++ blank 2)
   pub again : judged full (image13 ++ blank 2) ≡ Accepted 3
   pub back : partsOf (image13 ++ blank 2) ≡ parts13
   pub accepted13 : judged full image13 ≡ Accepted 3
+  pub writtenShort : written short13 (blank 0xD2) ≡ (WriteAnswer.Length 0xD0, imageShort ++ blank 2)
+  pub backShort : partsOf (imageShort ++ blank 2) ≡ short13
+  pub acceptedShort : judged full imageShort ≡ Accepted 3
   pub signed : judged full imageSigned ≡ Accepted 4
 
 pub computed : Computed
 unfolding written checked reviewed image laid body laidRecords laidRecord crcLength check spelled sixteenAt tab flatten covered checkOver promSigAt first chain visit next round16 le32 le64 crc32 shift shifts step32 judged rule20 rule21 rule22 rule23 rule24 rule25 rule26 rule27 rule28 rule29 rule30 rule31 rule32 rule33 rule34 misplaced gapUsed expected outOfOrder endAt mapAt boardAt laterAt shapeAt shapeOf listedShape records badMapHead badBoardHead badPromSigHead badHash badHashOf hashSize badMap badMapField badMapRecord repeatedLabel badBoardType badInside reservedUsed badLabel textEnd isLabelText isText nonzero all le16 partsOf recordsOf mapRecordAt eepromAt eeprMapAt brdInfoAt
-computed = record { written13 = refl; again = refl; back = refl; accepted13 = refl; signed = refl }
+computed =
+    record {
+      written13 = refl;
+      again = refl;
+      back = refl;
+      accepted13 = refl;
+      writtenShort = refl;
+      backShort = refl;
+      acceptedShort = refl;
+      signed = refl;
+    }

@@ -1,11 +1,13 @@
 -- The image that the writer makes. Paper 01, "Writers": "It works out Lengths, Offsets and the check fields by the rules above, and writes minor 0 and zero
 -- reserved bytes." Each structure has its fields in the order of layout paper 000. Assumes nothing.
-use Prim.Native.Nat.{ℕ, _+_, _*_}
+use Prim.Native.Nat.{ℕ, _+_, _-_, _*_}
 use mathlib.Core.List.{List, _∷_, _++_, flatten}
 use lib.ListN.{length, replicate}
 use Rattle.board.specs.declared.BrdInfoFields.{BrdInfoFields}
+use Rattle.board_layout.specs.Layout.{headerLength}
 use Rattle.board_layout.specs.Places.{MapData, mapRecordSize}
-use Rattle.board_rules.specs.Rules.{headerLength, covered, checkOver}
+use Rattle.board_layout.specs.declared.Header.{Header}
+use Rattle.board_rules.specs.Rules.{covered, checkOver}
 use Rattle.board_writer.specs.Parts.{Parts, givenSize, recordCount}
 use Rattle.board_writer.specs.declared.MapFields.{MapFields}
 use Rattle.chain.specs.Fill.{tab}
@@ -22,10 +24,10 @@ zeros n = replicate n 0
 abbrev pub head : ℕ → ℕ → List ℕ
 head signature size = spelled 8 signature ++ spelled 2 1 ++ spelled 2 0 ++ spelled 4 size
 
--- $Eeprom$: StructLen, Crc32, CrcLength, Version, Reserved
-abbrev pub headerOf : ℕ → ℕ → ℕ → ℕ → List ℕ
-headerOf end check covers version =
-    head eeprom headerLength ++ spelled 4 end ++ spelled 4 check ++ spelled 4 covers ++ spelled 4 version ++ zeros 16
+-- $Eeprom$: StructLen, Crc32, CrcLength, Version, and from 20h on Reserved, where its Length covers it
+abbrev pub headerOf : Header → ℕ → ℕ → ℕ → ℕ → List ℕ
+headerOf header end check covers version =
+    head eeprom (headerLength header) ++ spelled 4 end ++ spelled 4 check ++ spelled 4 covers ++ spelled 4 version ++ zeros (headerLength header - 0x20)
 
 -- $EeprMap of a Length, up to its records: PartLabel, BlkLength, PageSize, PartSize, BusNumber, Master, Speed, Reserved
 abbrev pub mapOf : ℕ → MapFields → List ℕ
@@ -61,14 +63,14 @@ abbrev pub mapLength : Parts → ℕ
 mapLength x = MapData + mapRecordSize * recordCount x
 
 -- where the map starts, its record k, the board, and the further bytes
-abbrev pub mapPlace : ℕ
-mapPlace = headerLength
+abbrev pub mapPlace : Parts → ℕ
+mapPlace x = headerLength (x .header)
 
-abbrev pub recordPlace : ℕ → ℕ
-recordPlace k = mapPlace + MapData + k * mapRecordSize
+abbrev pub recordPlace : Parts → ℕ → ℕ
+recordPlace x k = mapPlace x + MapData + k * mapRecordSize
 
 abbrev pub boardPlace : Parts → ℕ
-boardPlace x = mapPlace + mapLength x
+boardPlace x = mapPlace x + mapLength x
 
 abbrev pub furtherPlace : Parts → ℕ
 furtherPlace x = boardPlace x + boardLength
@@ -83,7 +85,7 @@ body x = mapOf (mapLength x) (x .map) ++ laidRecords (x .records) (x .map .blkle
 
 -- the image with these check fields
 unfoldable pub laid : Parts → ℕ → ℕ → List ℕ
-laid x check covers = headerOf (imageLength x) check covers (x .version) ++ body x
+laid x check covers = headerOf (x .header) (imageLength x) check covers (x .version) ++ body x
 
 -- the check fields: what rule 27 expects of it, also where the further bytes end in a `$PromSig`
 unfoldable pub crcLength : Parts → ℕ

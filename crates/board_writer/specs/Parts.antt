@@ -1,11 +1,13 @@
 -- What the writer takes. Paper 01, "Writers": "Version, the map's fields with one run of records (label and address, seventeen bytes each), the board's fields,
--- labels as sixteen bytes, and one run of further bytes (heads and padding included)". Assumes nothing.
+-- labels as sixteen bytes, and one run of further bytes (heads and padding included)"; paper 02, R-6: "The board writer is told which to build", of the two
+-- headers. Assumes nothing.
 use Prim.Native.Nat.{ℕ, _/_, _%_, _<_}
 use mathlib.Core.Bool.{not}
 use mathlib.Core.List.{List}
 use lib.Dec.{eqb}
 use lib.ListN.{length}
 use Rattle.board.specs.declared.BrdInfoFields.{BrdInfoFields}
+use Rattle.board_layout.specs.declared.Header.{Header}
 use Rattle.board_writer.specs.declared.MapFields.{MapFields}
 use Rattle.chain.specs.First.{when}
 use Rattle.chain.specs.declared.Found.{Found}
@@ -13,6 +15,7 @@ use Rattle.octets.specs.Bytes.{Octets}
 use Rattle.octets.specs.Runs.{sixteenBytes}
 
 pub record Parts : Type 0 where
+  pub header : Header
   pub version : ℕ
   pub map : MapFields
   pub records : List ℕ
@@ -20,9 +23,9 @@ pub record Parts : Type 0 where
   pub further : List ℕ
 
 -- as a call gives them
-abbrev pub parts : ℕ → MapFields → List ℕ → BrdInfoFields → List ℕ → Parts
-parts version map records board further =
-    record { version = version; map = map; records = records; board = board; further = further }
+abbrev pub parts : Header → ℕ → MapFields → List ℕ → BrdInfoFields → List ℕ → Parts
+parts header version map records board further =
+    record { header = header; version = version; map = map; records = records; board = board; further = further }
 
 -- label (16) and address (1)
 abbrev pub givenSize : ℕ

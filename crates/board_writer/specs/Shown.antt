@@ -37,7 +37,7 @@ mapShown x =
       busnumber = x .map .busnumber;
       master = x .map .master;
       speed = x .map .speed;
-      mapdata = record { place = mapPlace + MapData; length = mapRecordSize * recordCount x };
+      mapdata = record { place = mapPlace x + MapData; length = mapRecordSize * recordCount x };
     }
 
 -- record k: "Record k has Offset k x BlkLength"

@@ -1,6 +1,8 @@
 // The fixed parts of an image as bytes: the header, the map up to its records, a record, the board structure. Reserved bytes stay zero.
 use super::MapFields;
 use board::BrdInfoFields;
+use board_layout::Header;
+use board_layout::header_length;
 use kinds::BRD_INFO;
 use kinds::EEPR_MAP;
 use kinds::EEPROM;
@@ -10,8 +12,11 @@ use octets::spell::le16_bytes;
 use octets::spell::le32_bytes;
 use octets::spell::le64_bytes;
 use octets::spell::sixteen_bytes;
+ghost use mathlib.Core.List.{_++_};
 ghost use mathlib.Core.Path.{_≡_};
-ghost use Rattle.board_writer.specs.Image.{head, headerOf, mapOf, recordOf, boardOf};
+ghost use Prim.Native.Nat.{_-_};
+ghost use Rattle.board_layout.specs.Layout.{headerLength};
+ghost use Rattle.board_writer.specs.Image.{zeros, head, headerOf, mapOf, recordOf, boardOf};
 
 // A generic head of version 1.0.
 fn head_bytes(signature: u64, length: u32) -> [u8; 16]
@@ -24,12 +29,16 @@ fn head_bytes(signature: u64, length: u32) -> [u8; 16]
     bytes
 }
 
-// `$Eeprom$`.
-pub fn header_bytes(end: u32, check: u32, covers: u32, version: u32) -> [u8; 48]
-    ensures { λ r. ⌜ r ≡ headerOf end check covers version ⌝ }
+// `$Eeprom$`, and zeros up to 30h bytes.
+pub fn header_bytes(header: Header, end: u32, check: u32, covers: u32, version: u32) -> [u8; 48]
+    ensures { λ r. ⌜ r ≡ headerOf header end check covers version ++ zeros (0x30 - headerLength header) ⌝ }
 {
     let mut bytes = [0u8; 48];
-    put_at(&head_bytes(EEPROM, 0x30), 0, &mut bytes);
+    put_at(
+        &head_bytes(EEPROM, header_length(header) as u32),
+        0,
+        &mut bytes,
+    );
     put_at(&le32_bytes(end as u64), 0x10, &mut bytes);
     put_at(&le32_bytes(check as u64), 0x14, &mut bytes);
     put_at(&le32_bytes(covers as u64), 0x18, &mut bytes);

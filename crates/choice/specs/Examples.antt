@@ -12,7 +12,7 @@ use Rattle.board_fields.specs.Reserved.{reservedUsed}
 use Rattle.board_layout.specs.Layout.{shapeAt, endAt, round16, next, mapAt, boardAt, laterAt, records}
 use Rattle.board_layout.specs.Shapes.{listedShape, shapeOf}
 use Rattle.board_records.specs.Records.{badMapRecord, repeatedLabel}
-use Rattle.board_rules.specs.Examples.{zeros, four, head, eeprMap}
+use Rattle.board_rules.specs.Examples.{zeros, four, head, short, eeprMap}
 use Rattle.board_rules.specs.Judged.{judged}
 use Rattle.board_rules.specs.Rules.{rule20, rule21, rule22, rule23, rule24, rule25, rule26, rule27, rule28, rule29, rule30, rule31, rule32, rule33, rule34, misplaced, gapUsed, expected, outOfOrder, promSigAt, covered, checkOver}
 use Rattle.chain.specs.Chain.{visit, chain}
@@ -44,10 +44,15 @@ brdInfo serial ec =
 abbrev image : ℕ → ℕ → ℕ → ℕ → List ℕ
 image check version serial ec = header check version ++ eeprMap 2 ++ brdInfo serial ec
 
--- Version 3; Version 4; Version 4 with another BrdSerial, with another EcId, with three bytes more lent, with one too few, with one bit of Crc32 changed
+-- the same of Version 4 with the short header
+abbrev shorter4 : List ℕ
+shorter4 = short 0xD0 0xEB3F8F78 0xD0 ++ eeprMap 2 ++ brdInfo 0x31 3
+
+-- Version 3; Version 4; Version 4 with the short header; Version 4 with another BrdSerial, with another EcId, with three bytes more lent, with one too few, with one bit of Crc32 changed
 data Name : Type 0 where
   older : Name
   newer : Name
+  shortNewer : Name
   otherSerial : Name
   otherEc : Name
   longer : Name
@@ -57,6 +62,7 @@ data Name : Type 0 where
 abbrev bytes : Name → List ℕ
 bytes older = image 0x7BA3A2AE 3 0x31 3
 bytes newer = image 0x971449AD 4 0x31 3
+bytes shortNewer = shorter4
 bytes otherSerial = image 0xA8DF3738 4 0x32 3
 bytes otherEc = image 0xA60C7EDA 4 0x31 4
 bytes longer = image 0x971449AD 4 0x31 3 ++ (1 ∷ 2 ∷ 3 ∷ [])
@@ -67,6 +73,7 @@ bytes damaged = image 0x971449AC 4 0x31 3
 abbrev verdict : Name → Judged
 verdict older = Accepted 3
 verdict newer = Accepted 3
+verdict shortNewer = Accepted 3
 verdict otherSerial = Accepted 3
 verdict otherEc = Accepted 3
 verdict longer = Accepted 3
@@ -77,6 +84,7 @@ judged-hold : (n : Name) → judged full (bytes n) ≡ verdict n
 unfolding judged rule20 rule21 rule22 rule23 rule24 rule25 rule26 rule27 rule28 rule29 rule30 rule31 rule32 rule33 rule34 misplaced gapUsed expected outOfOrder promSigAt covered checkOver badMapHead badBoardHead badPromSigHead badHash badMap badMapField badMapRecord repeatedLabel badBoardType reservedUsed badInside shapeAt shapeOf listedShape endAt round16 next mapAt boardAt laterAt records visit chain first tab le16 le32 le64 nonzero difference sameRun isText isLabelText textEnd badLabel all crc32 shift shifts step32
 judged-hold older = refl
 judged-hold newer = refl
+judged-hold shortNewer = refl
 judged-hold otherSerial = refl
 judged-hold otherEc = refl
 judged-hold longer = refl
@@ -108,6 +116,10 @@ rows =
     -- "Only BrdSerial differs, 3 and 4: EEPROM. EcId differs: firmware."
     ∷ row older otherSerial eeprom (bytes otherSerial)
     ∷ row older otherEc firmware (bytes older)
+    -- one board, its map and board structure at other places: an EEPROM image with the short header, and a firmware image with the long one, and the other way
+    ∷ row older shortNewer (says (record { which = 1; length = 0xD0 })) (bytes shortNewer)
+    ∷ row newer shortNewer firmware (bytes newer)
+    ∷ row shortNewer newer (says (record { which = 0; length = 0xD0 })) (bytes shortNewer)
     -- one is refused: the other, whatever its Version
     ∷ row damaged older eeprom (bytes older)
     ∷ row older damaged firmware (bytes older)

@@ -25,8 +25,9 @@ use Rattle.board_layout.specs.declared.Shape.the-variants.{Eeprom, EeprMap, Gpi
 use Rattle.board_layout.specs.laws.Tables.{reserved-row}
 use Rattle.board_layout.specs.laws.Layout.{next-grows, record-size}
 use Rattle.board_records.specs.Records.{recordFrom, recordTo}
-use Rattle.board_rules.specs.laws.Accepted.{header-is, structures-are}
+use Rattle.board_rules.specs.laws.Accepted.{header-is, structures-are, structures-fit}
 use Rattle.board_rules.specs.laws.Rows.{Placed, structures-placed}
+use Rattle.board_rules.specs.laws.Walk.{Fits}
 use Rattle.chain.specs.Chain.{ahead}
 use Rattle.chain.specs.Nth.{nth}
 use Rattle.chain.specs.declared.Found.the-variants.{At}
@@ -115,6 +116,9 @@ module _ (k : Kinds) (s t : List ℕ) (good : Octets s) (fine : Octets t) (c d :
     placed : Placed k s p
     placed = nth-all (Placed k s) (structures s) i p (structures-placed k s c e) at
 
+    fits : Fits s p
+    fits = nth-all (Fits s) (structures s) i p (structures-fit k s c e) at
+
     abbrev Told : Type 0
     Told = (byte s q ≡ byte t q) ⊎ (NotShown k s q ⊎ VersionUnknown k s q)
 
@@ -123,14 +127,19 @@ module _ (k : Kinds) (s t : List ℕ) (good : Octets s) (fine : Octets t) (c d :
       minor : (minorAt s p ≡ 0) ⊎ (0 < minorAt s p)
       minor = elim (below 0 (minorAt s p)) [ inl x ↦ inr x | inr x ↦ inl (omega arith) ]
 
-      -- a byte of its table: told, reserved, or in Crc32
-      row : q < p + reservedTo (shapeAt s p) → Told
-      row y =
+      -- the row Reserved, where a byte of it lies within Length, lies there whole
+      whole : p + reservedFrom (shapeAt s p) ≤ q → q < endAt s p → p + reservedTo (shapeAt s p) ≤ endAt s p
+      unfolding endAt
+      whole x y = elim (placed .row on) [ inl z ↦ omega arith | inr z ↦ absurd (omega arith) ]
+
+      -- a byte of its table within Length: told, reserved, or in Crc32
+      row : q < p + reservedTo (shapeAt s p) → q < endAt s p → Told
+      row y v =
           elim (known-told k s t p item on good fine q a y) [
             | inl x ↦ inl x
             | inr (inl x) ↦ elim minor [
-              | inl z ↦ inl (place.row-bytes k s t good fine c d e g i p at too item on z q (x .0) (x .1))
-              | inr z ↦ inr (inl (reserved (record { number = i; place = p; stands = at; property = (on, z); past = x .0; before = x .1 })))
+              | inl z ↦ inl (place.row-bytes k s t good fine c d e g i p at too item on z (whole (x .0) v) q (x .0) (x .1))
+              | inr z ↦ inr (inl (reserved (record { number = i; place = p; stands = at; property = ((on, z), whole (x .0) v); past = x .0; before = x .1 })))
             ]
             | inr (inr x) ↦ let o : p ≡ 0 = placed .header (x .0) in inr (inl (check (omega (arith, x .1 .0), omega (arith, x .1 .1))))
           ]
@@ -222,14 +231,15 @@ module _ (k : Kinds) (s t : List ℕ) (good : Octets s) (fine : Octets t) (c d :
               inr (inl (following (record { number = i; place = p; stands = at; property = (on, none u v); past = x; before = y })))
 
       known-byte : q < endAt s p → Told
-      known-byte y = elim (below q (p + reservedTo (shapeAt s p))) [ inl w ↦ row w | inr w ↦ after w y ]
+      known-byte y = elim (below q (p + reservedTo (shapeAt s p))) [ inl w ↦ row w y | inr w ↦ after w y ]
 
     -- versions, and data, by whether it is known
     version : p + VerMajor ≤ q → q < p + Length → Told
+    unfolding endAt
     version x y = go (knows k (shapeAt s p)) refl
       where
         go : (m : Bool) → knows k (shapeAt s p) ≡ m → Told
-        go true on = row on (omega (arith, y, reserved-row (shapeAt s p)))
+        go true on = row on (omega (arith, y, reserved-row (shapeAt s p))) (omega (arith, y, fits .head))
         go false off = inr (inr (record { number = i; place = p; stands = at; property = off; past = x; before = y }))
 
     inside : p + headSize ≤ q → q < endAt s p → Told

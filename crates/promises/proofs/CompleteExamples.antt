@@ -6,7 +6,7 @@ use mathlib.Core.Logic.{_⊎_, inl, inr}
 use mathlib.Core.Path.{_≡_, refl, ap}
 use native.Mathlib.Omega.{arith}
 use lib.Dec.{ltb, leb}
-use lib.ListN.{replicate}
+use lib.ListN.{replicate, take, drop}
 use borrow.Author.Tests.{ltb-true, leb-true}
 use Rattle.board.specs.Answers.{mapRecordNumbered, gpioRecordNumbered}
 use Rattle.board.specs.Items.{restAt, eepromAt, eeprMapAt, brdInfoAt, fpgaNfoAt, itemAt}
@@ -22,7 +22,7 @@ use Rattle.board_layout.specs.Shapes.{listedShape, shapeOf, HasRecords}
 use Rattle.board_layout.specs.declared.Records.{Records}
 use Rattle.board_layout.specs.declared.Records.the-variants.{Map, Gpio}
 use Rattle.board_records.specs.Records.{badMapRecord, repeatedLabel, badGpioRecord}
-use Rattle.board_rules.specs.Examples.{zeros, head, image, logo}
+use Rattle.board_rules.specs.Examples.{zeros, four, head, eeprMap, brdInfo, image, logo}
 use Rattle.board_rules.specs.Judged.{judged}
 use Rattle.board_rules.specs.Rules.{rule20, rule21, rule22, rule23, rule24, rule25, rule26, rule27, rule28, rule29, rule30, rule31, rule32, rule33, rule34, misplaced, gapUsed, expected, outOfOrder, promSigAt, covered, checkOver}
 use Rattle.chain.specs.Chain.{visit, chain}
@@ -36,7 +36,7 @@ use Rattle.kinds.specs.Signatures as signatures
 use Rattle.kinds.specs.declared.Kind.the-variants.{Signature}
 use Rattle.octets.specs.Bytes.{le16, le32, le64, byte, Octets}
 use Rattle.octets.specs.Label.{isText, isLabelText, textEnd, badLabel}
-use Rattle.octets.specs.Rows.{number, part}
+use Rattle.octets.specs.Rows.{number, bytes, part}
 use Rattle.octets.specs.Runs.{sixteenAt, nonzero}
 use Rattle.promises.proofs.BoardExamples.{accepts-board, logoless-one, logoless-other, images-board}
 use Rattle.promises.proofs.Complete.{complete}
@@ -136,3 +136,34 @@ record Told : Type 0 where
 told : Told
 unfolding answers hidden itemNumbered listOf entryAt onward moved shown walked stepNumbered mapRecordNumbered gpioRecordNumbered restAt eepromAt eeprMapAt brdInfoAt fpgaNfoAt itemAt mapRecordAt gpioRecordAt judged rule20 rule21 rule22 rule23 rule24 rule25 rule26 rule27 rule28 rule29 rule30 rule31 rule32 rule33 rule34 misplaced gapUsed expected outOfOrder promSigAt covered checkOver badMapHead badBoardHead badPromSigHead badHash badHashOf hashSize badMap badMapField badMapRecord repeatedLabel badGpioRecord badBoardType reservedUsed badInside badFpga badGpio shapeAt shapeOf listedShape endAt round16 next mapAt boardAt laterAt records visit chain first nth tab le16 le32 le64 sixteenAt nonzero isText isLabelText textEnd badLabel listed picked all same crc32 shift shifts step32
 told = record { three = refl; four = refl }
+
+-- ---- and the bytes behind the short header are the map's, also where the header's VerMinor is above 0: maps of VerMinor 0 and 1 are shown as such
+abbrev behindShort : ℕ → ℕ → List ℕ
+behindShort minor crc =
+    (0x24 ∷ 0x45 ∷ 0x65 ∷ 0x70 ∷ 0x72 ∷ 0x6F ∷ 0x6D ∷ 0x24 ∷ 1 ∷ 0 ∷ 1 ∷ 0 ∷ []) ++ four 0x20 ++ four 0xD0 ++ four crc ++ four 0xD0 ++ four 4
+    ++ take 10 (eeprMap 2) ++ (minor ∷ drop 11 (eeprMap 2)) ++ brdInfo 0x60 0
+
+abbrev mapWith : ℕ → ItemValues
+mapWith minor =
+    record {
+      kind = Signature signatures.eeprMap;
+      place = 0x20;
+      length = 0x40;
+      fields = reader.board-fields
+          (("VerMajor", number 1)
+          ∷ ("VerMinor", number minor)
+          ∷ ("Length", number 0x50)
+          ∷ ("PartLabel", bytes (0x72 ∷ 0x69 ∷ 0x67 ∷ 0x24 ∷ zeros 12))
+          ∷ ("BlkLength", number 4096)
+          ∷ ("PageSize", number 32)
+          ∷ ("PartSize", number 4096)
+          ∷ ("BusNumber", number 0)
+          ∷ ("Master", number 1)
+          ∷ ("Speed", number 2)
+          ∷ ("MapData", part 0x50 0x20)
+          ∷ []);
+    }
+
+behind-short : (answers Board full (behindShort 0 0x653861A2) .item 1 ≡ says (mapWith 0)) × (answers Board full (behindShort 1 0x4A4605BB) .item 1 ≡ says (mapWith 1))
+unfolding answers hidden itemNumbered listOf entryAt onward moved shown walked stepNumbered mapRecordNumbered gpioRecordNumbered restAt eepromAt eeprMapAt brdInfoAt fpgaNfoAt itemAt mapRecordAt gpioRecordAt judged rule20 rule21 rule22 rule23 rule24 rule25 rule26 rule27 rule28 rule29 rule30 rule31 rule32 rule33 rule34 misplaced gapUsed expected outOfOrder promSigAt covered checkOver badMapHead badBoardHead badPromSigHead badHash badHashOf hashSize badMap badMapField badMapRecord repeatedLabel badGpioRecord badBoardType reservedUsed badInside badFpga badGpio shapeAt shapeOf listedShape endAt round16 next mapAt boardAt laterAt records visit chain first nth tab le16 le32 le64 sixteenAt nonzero isText isLabelText textEnd badLabel listed picked all same crc32 shift shifts step32
+behind-short = (refl, refl)

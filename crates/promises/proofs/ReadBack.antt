@@ -15,7 +15,7 @@ use Rattle.board.specs.Values.{mapRecordSaid}
 use Rattle.board.specs.declared.Fields.{Fields}
 use Rattle.board.specs.declared.ItemAnswer as board-item
 use Rattle.board.specs.declared.ShownItem.{ShownItem}
-use Rattle.board_rules.specs.Rules.{headerLength}
+use Rattle.board_layout.specs.Layout.{headerLength}
 use Rattle.board_writer.specs.Image.{mapLength, boardLength, mapPlace, boardPlace}
 use Rattle.board_writer.specs.Parts as board-parts
 use Rattle.board_writer.specs.Shown.{itemShown as structureShown, headerShown, mapShown}
@@ -247,8 +247,8 @@ written-board x fits b n told m h most k =
     let t : List ℕ = take m (board-writer.written x b .1) in
     let a = written-answers x b n told fits m h most k in
     record {
-      header = board-said k t 0 (structureShown eeprom 0 headerLength (Fields.Eeprom (headerShown x))) (a .header);
-      map = board-said k t 1 (structureShown eeprMap mapPlace (mapLength x) (Fields.EeprMap (mapShown x))) (a .map);
+      header = board-said k t 0 (structureShown eeprom 0 (headerLength (x .header)) (Fields.Eeprom (headerShown x))) (a .header);
+      map = board-said k t 1 (structureShown eeprMap (mapPlace x) (mapLength x) (Fields.EeprMap (mapShown x))) (a .map);
       board = board-said k t 2 (structureShown brdInfo (boardPlace x) boardLength (Fields.BrdInfo (x .board))) (a .board);
       mapRecord = λ i l. ap mapRecordSaid (a .records i l);
       noMapRecord = λ i l. ap mapRecordSaid (a .past i l);

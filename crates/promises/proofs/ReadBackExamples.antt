@@ -1,4 +1,4 @@
--- Reading back at case 4 and at case 13: the premises of both claims are met there, and what they say of these images, written out. Assumes nothing.
+-- Reading back at case 4 and at case 13, with each header: the premises of both claims are met there, and what they say of these images, written out. Assumes nothing.
 use Prim.Native.Nat.{ℕ, _<_}
 use mathlib.Core.Bool.{true}
 use mathlib.Core.List.{List, [], _∷_, _++_, map, flatten}
@@ -6,16 +6,19 @@ use mathlib.Core.Path.{_≡_, refl, ap}
 use native.Mathlib.Omega.{arith}
 use lib.ListN.{take}
 use Rattle.board.specs.Values.{counted}
+use Rattle.board.specs.declared.Fields.{Fields}
+use Rattle.board_layout.specs.declared.Header.the-variants.{Short, Long}
 use Rattle.board_writer.specs.ExampleParts as board-example
 use Rattle.board_writer.specs.Image.{zeros}
 use Rattle.board_writer.specs.Written as board-writer
-use Rattle.board_writer.specs.laws.Case13.{fits13, told13}
+use Rattle.board_writer.specs.laws.Case13.{fits13, told13, toldShort}
 use Rattle.chain.specs.Chain.{visit, chain}
 use Rattle.chain.specs.Fill.{tab}
 use Rattle.chain.specs.First.{first}
 use Rattle.chain.specs.Nth.{nth}
 use Rattle.crc.specs.Crc8.{crc8, reduce, bring, bitsOf, bitsOfAll}
 use Rattle.kinds.specs.Kinds.{full, bare, all, listed, picked, same}
+use Rattle.kinds.specs.Signatures.{eeprom}
 use Rattle.kinds.specs.declared.Kind.the-variants.{Tag}
 use Rattle.kinds.specs.declared.Kinds.{Kinds}
 use Rattle.octets.specs.Label.{isText}
@@ -25,7 +28,7 @@ use Rattle.promises.proofs.Demand2.{demand2}
 use Rattle.promises.specs.Answers.{answers}
 use Rattle.promises.specs.Asked.{without}
 use Rattle.promises.specs.Rows.{labelled}
-use Rattle.promises.specs.ReadBack.{givenCount, givenItem, rowsGiven, OnlySerial, TinyShows, BoardShows}
+use Rattle.promises.specs.ReadBack.{givenCount, givenItem, rowsGiven, OnlySerial, TinyShows, structureGiven, BoardShows}
 use Rattle.reader.specs.Answers.{itemNumbered}
 use Rattle.reader.specs.Values.{ItemValues}
 use Rattle.reader.specs.declared.Format.the-variants.{Tiny, Board}
@@ -112,7 +115,7 @@ abbrev written13 : List ℕ
 written13 = take 0xE0 (board-writer.written board-example.parts13 (board-example.blank 0xE2) .1)
 
 shows13 : BoardShows board-example.parts13 (answers Board bare written13)
-shows13 = demand2 .boardShows board-example.parts13 fits13 (board-example.blank 0xE2) 0xE0 told13 0xE0 (omega arith) (omega arith) bare
+shows13 = demand2 .boardShows board-example.parts13 (fits13 Long) (board-example.blank 0xE2) 0xE0 told13 0xE0 (omega arith) (omega arith) bare
 
 record13 : answers Board bare written13 .further .mapRecord 0
     ≡ says (("MapLabel", bytes (top1 ++ (0x24 ∷ zeros 11))) ∷ counted "Length" 0x20 ∷ counted "Offset" 0 ∷ counted "Address" 0x50 ∷ [])
@@ -121,3 +124,19 @@ record13 = shows13 .mapRecord 0 (omega arith)
 
 past13 : answers Board bare written13 .further .mapRecord 1 ≡ refused 42 0
 past13 = shows13 .noMapRecord 1 (omega arith)
+
+-- ---- the same with the short header: item 0 shows its Length, and the map lies behind it
+abbrev writtenShort : List ℕ
+writtenShort = take 0xD0 (board-writer.written board-example.short13 (board-example.blank 0xD2) .1)
+
+showsShort : BoardShows board-example.short13 (answers Board bare writtenShort)
+showsShort = demand2 .boardShows board-example.short13 (fits13 Short) (board-example.blank 0xD2) 0xD0 toldShort 0xD0 (omega arith) (omega arith) bare
+
+headerShort : answers Board bare writtenShort .item 0
+    ≡ says (structureGiven eeprom 0 0x20 (Fields.Eeprom (record { structlen = 0xD0; crclength = 0xD0; version = 4 })))
+headerShort = showsShort .header
+
+recordShort : answers Board bare writtenShort .further .mapRecord 0
+    ≡ says (("MapLabel", bytes (top1 ++ (0x24 ∷ zeros 11))) ∷ counted "Length" 0x20 ∷ counted "Offset" 0 ∷ counted "Address" 0x50 ∷ [])
+unfolding sixteenAt tab
+recordShort = showsShort .mapRecord 0 (omega arith)

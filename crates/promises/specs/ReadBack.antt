@@ -11,7 +11,7 @@ use lib.ListN.{length, getD, drop}
 use Rattle.board.specs.Values.{counted, fieldValues, mapRecordValues}
 use Rattle.board.specs.declared.Fields.{Fields}
 use Rattle.board_layout.specs.Places.{headSize}
-use Rattle.board_rules.specs.Rules.{headerLength}
+use Rattle.board_layout.specs.Layout.{headerLength}
 use Rattle.board_writer.specs.Image.{mapLength, boardLength, mapPlace, boardPlace}
 use Rattle.board_writer.specs.Parts as board-parts
 use Rattle.board_writer.specs.Parts.{recordCount}
@@ -114,8 +114,8 @@ structureGiven signature place size fields =
 
 -- what a reader answers about an image of these parts, whatever its list
 pub record BoardShows (x : board-parts.Parts) (a : Answers Board) : Type 0 where
-  pub header : a .item 0 ≡ says (structureGiven eeprom 0 headerLength (Fields.Eeprom (headerShown x)))
-  pub map : a .item 1 ≡ says (structureGiven eeprMap mapPlace (mapLength x) (Fields.EeprMap (mapShown x)))
+  pub header : a .item 0 ≡ says (structureGiven eeprom 0 (headerLength (x .header)) (Fields.Eeprom (headerShown x)))
+  pub map : a .item 1 ≡ says (structureGiven eeprMap (mapPlace x) (mapLength x) (Fields.EeprMap (mapShown x)))
   pub board : a .item 2 ≡ says (structureGiven brdInfo (boardPlace x) boardLength (Fields.BrdInfo (x .board)))
   -- record i is the one given, and 42 comes past them
   pub mapRecord : (i : ℕ) → i < recordCount x → a .further .mapRecord i ≡ says (mapRecordValues (recordShown x i))

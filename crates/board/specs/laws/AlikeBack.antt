@@ -69,7 +69,15 @@ module _ (k : Kinds) (s t : List ℕ) (c : ℕ) (e : judged k s ≡ Accepted c) 
             number = u .number;
             place = u .place;
             stands = stand (u .number) (u .place) (u .stands);
-            property = raised (u .number) (u .place) (u .stands) (u .property);
+            property = (
+              raised (u .number) (u .place) (u .stands) (u .property .0),
+              omega (
+                arith,
+                u .property .1,
+                ap reservedTo (shape (u .number) (u .place) (u .stands)),
+                end-same s t (u .place) (head-alike k s t c e alike (u .number) (u .place) (u .stands)),
+              ),
+            );
             past = omega (arith, u .past, ap reservedFrom (shape (u .number) (u .place) (u .stands)));
             before = omega (arith, u .before, ap reservedTo (shape (u .number) (u .place) (u .stands)));
           })

@@ -21,7 +21,6 @@ use Rattle.board_layout.specs.laws.Tables.{reserved-row}
 use Rattle.board_records.specs.Records.{recordFrom, recordTo}
 use Rattle.board_rules.specs.Judged.{judged}
 use Rattle.board_rules.specs.laws.Accepted.{header-length, map-place, map-second, structures-are, structures-fit}
-use Rattle.board_rules.specs.laws.Rows.{Placed, structures-placed}
 use Rattle.board_rules.specs.laws.Tables.{Holds, fields-hold}
 use Rattle.board_rules.specs.laws.Walk.{Fits}
 use Rattle.chain.specs.All.{All}
@@ -107,12 +106,6 @@ module _ (k : Kinds) (s t : List ℕ) (c : ℕ) (e : judged k s ≡ Accepted c) 
         | inr (inr z) ↦ absurd (omega arith)
       ]
 
-  -- the Reserved row of a known structure ends before the next one
-  row-next : (i p : ℕ) → Stands s i p → knows k (shapeAt s p) ≡ true → p + reservedTo (shapeAt s p) ≤ next s p
-  unfolding endAt
-  row-next i p at known =
-      omega (arith, nth-all (Placed k s) (structures s) i p (structures-placed k s c e) at .row known, end-next s p)
-
   -- the records of a structure start past its Reserved row
   records-start : (which : Records) (p r j : ℕ) → HasRecords which (shapeAt s p) → nth (records which s p) j ≡ At r → p + reservedTo (shapeAt s p) ≤ r
   unfolding records
@@ -140,9 +133,9 @@ module _ (k : Kinds) (s t : List ℕ) (c : ℕ) (e : judged k s ≡ Accepted c) 
       inr (subst (λ (x : ℕ). Past x q) z (inl (u .property, u .past)))
   past i p q at a b (reserved u) =
       let r : ℕ = u .place in
-      let w = row-next (u .number) r (u .stands) (u .property .0) in
-      let z : r ≡ p = own i p (u .number) r q at (u .stands) a b (omega (arith, u .past)) (omega (arith, u .before, w)) in
-      inr (subst (λ (x : ℕ). Past x q) z (inr (u .property .0, u .past)))
+      let w : q < next s r = omega (arith, u .before, u .property .1, end-next s r) in
+      let z : r ≡ p = own i p (u .number) r q at (u .stands) a b (omega (arith, u .past)) w in
+      inr (subst (λ (x : ℕ). Past x q) z (inr (u .property .0 .0, u .past)))
   past i p q at a b (recordReserved which u) =
       let r : ℕ = u .place in
       let v = u .property .2 in
@@ -231,8 +224,7 @@ module _ (k : Kinds) (s t : List ℕ) (c : ℕ) (e : judged k s ≡ Accepted c) 
           false≢true (sym (u .property) ∙ ap (λ (x : ℕ). knows k (shapeAt s x)) z ∙ known)
       never (reserved u) =
           let o : ℕ = u .place in
-          let v = row-next (u .number) o (u .stands) (u .property .0) in
-          let z : o ≡ p = here (u .number) o (u .stands) (omega (arith, u .past)) (omega (arith, u .before, v)) in
+          let z : o ≡ p = here (u .number) o (u .stands) (omega (arith, u .past)) (omega (arith, u .before, u .property .1, end-next s o)) in
           omega (arith, a, start, subst (λ (x : ℕ). q < x + reservedTo (shapeAt s x)) z (u .before))
       never (recordReserved other u) =
           let z : u .place ≡ p = here (u .number) (u .place) (u .stands) (u .past) (omega (arith, u .before, end-next s (u .place))) in

@@ -68,10 +68,10 @@ module _ (k : Kinds) (s t : List ℕ) (good : Octets s) (fine : Octets t) (c d :
     minors = minor-told k s t p item on
 
     -- with VerMinor 0 its reserved bytes are zero in both, and those of its records
-    pub row-bytes : minorAt s p ≡ 0 → Same s t (p + reservedFrom (shapeAt s p)) (p + reservedTo (shapeAt s p))
-    row-bytes h q a b =
-        row-zero k s c e i p at on h q a b
-        ∙ sym (row-zero k t d g i p too known-here (sym minors ∙ h) q (omega (arith, a, ap reservedFrom shapes)) (omega (arith, b, ap reservedTo shapes)))
+    pub row-bytes : minorAt s p ≡ 0 → p + reservedTo (shapeAt s p) ≤ endAt s p → Same s t (p + reservedFrom (shapeAt s p)) (p + reservedTo (shapeAt s p))
+    row-bytes h whole q a b =
+        row-zero k s c e i p at on h whole q a b
+        ∙ sym (row-zero k t d g i p too known-here (sym minors ∙ h) (omega (arith, whole, ends, ap reservedTo shapes)) q (omega (arith, a, ap reservedFrom shapes)) (omega (arith, b, ap reservedTo shapes)))
 
     pub record-bytes : (which : Records) → HasRecords which (shapeAt s p) → minorAt s p ≡ 0 → (j r : ℕ) → nth (records which s p) j ≡ At r
         → nth (records which t p) j ≡ At r → Same s t (r + recordFrom which) (r + recordTo which)

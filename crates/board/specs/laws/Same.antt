@@ -20,7 +20,7 @@ use Rattle.verdict.specs.declared.Judged.{Judged}
 use Rattle.verdict.specs.declared.Refusal.{Refusal}
 use Rattle.verdict.specs.laws.Agree.{verdict-agree}
 
-module _ (s t : List ℕ) (long : 0x30 ≤ structLen s) (same : Same s t 0 (structLen s)) (k : Kinds) where
+module _ (s t : List ℕ) (long : 0x20 ≤ structLen s) (same : Same s t 0 (structLen s)) (k : Kinds) where
   alike : Alike k s t
   alike = record { length = struct-len-same s t long same; bytes = λ q h. inl (same q (omega arith) h) }
 

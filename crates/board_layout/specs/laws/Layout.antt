@@ -3,14 +3,19 @@
 use Prim.Native.Nat.{ℕ, _+_, _%_, _≤_, _<_}
 use mathlib.Core.Bool.{Bool, true, false, cond}
 use mathlib.Core.List.{List}
+use mathlib.Core.Logic.{_⊎_, inl, inr}
 use mathlib.Core.Path.{_≡_, refl, ap}
 use native.Mathlib.Omega.{arith}
 use lib.Dec.{ltb}
 use borrow.Author.Tests.{le-ltb, ltb-true, ltb-false}
-use Rattle.board_layout.specs.Layout.{lengthAt, structLen, endAt, round16, covers, next, structures, recordSize}
+use Rattle.board_layout.specs.Layout.{lengthAt, structLen, endAt, round16, covers, next, structures, headerLength, recordSize}
 use Rattle.board_layout.specs.Places.{headSize}
+use Rattle.board_layout.specs.Shapes.{reservedFrom, reservedTo}
+use Rattle.board_layout.specs.declared.Header.{Header}
+use Rattle.board_layout.specs.declared.Header.the-variants.{Short, Long}
 use Rattle.board_layout.specs.declared.Records.{Records}
 use Rattle.board_layout.specs.declared.Records.the-variants.{Map, Gpio}
+use Rattle.board_layout.specs.declared.Shape.the-variants.{Eeprom}
 use Rattle.chain.specs.All.{All}
 use Rattle.chain.specs.Chain.{chain}
 use Rattle.chain.specs.Nth.{nth}
@@ -82,6 +87,15 @@ module _ (s : List ℕ) where
 
   pub structure-below : (n p : ℕ) → nth (structures s) n ≡ At p → p < structLen s
   structure-below n p e = nth-all (λ q. (0 ≤ q) × (q < structLen s)) (structures s) n p structures-below e .1
+
+-- ---- a header has from 20h to 30h bytes, whole sixteens, and its Reserved row lies within them or starts where they end
+pub header-size : (h : Header) → (0x20 ≤ headerLength h) × (headerLength h ≤ 0x30) × (headerLength h % 16 ≡ 0)
+header-size Short = (omega arith, omega arith, refl)
+header-size Long = (omega arith, omega arith, refl)
+
+pub header-row : (h : Header) → (reservedTo Eeprom ≤ headerLength h) ⊎ (headerLength h ≡ reservedFrom Eeprom)
+header-row Short = inr refl
+header-row Long = inl (omega arith)
 
 -- ---- records have from 20h to 30h bytes
 pub record-size : (which : Records) → (0x20 ≤ recordSize which) × (recordSize which ≤ 0x30)

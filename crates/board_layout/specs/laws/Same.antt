@@ -62,7 +62,7 @@ structures-agree s t e heads =
     ∙ ap (λ (end : ℕ). chain (next t) end 0) e
 
 -- ---- images that agree up to StructLen
-module _ (s t : List ℕ) (long : 0x30 ≤ structLen s) (same : Same s t 0 (structLen s)) where
+module _ (s t : List ℕ) (long : 0x20 ≤ structLen s) (same : Same s t 0 (structLen s)) where
   -- the same StructLen
   pub struct-len-same : structLen s ≡ structLen t
   struct-len-same = le32-same s t 0 (structLen s) same StructLen (omega arith) (omega arith)

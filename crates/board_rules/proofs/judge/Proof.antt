@@ -46,8 +46,8 @@ enum-told c = search needs
 struct-len-requires : tie.Need-struct-len-requires
 struct-len-requires c κs = search needs
 
-cast-length : tie.Need-cast-length
-cast-length c = omega arith
+length-at-requires : tie.Need-length-at-requires
+length-at-requires c κs = search needs
 
 refused-requires-4 : tie.Need-refused-requires-4
 refused-requires-4 c κs = search needs
@@ -55,8 +55,19 @@ refused-requires-4 c κs = search needs
 returns-4 : tie.Need-returns-4
 unfolding judged rule20 rule22
 returns-4 c =
-    let f21 : rule21 (c .before .before .before .before .before .before .before .before .before .args .image .now) ≡ Nothing = rw (c .before .before .before .before .before .bad-header .ensures) at (c .before .before .before .enum-told .given .1) in
-    simp (le-ltb _ _ (c .before .before .before .before .before .before .before .if1 .left), le-ltb _ _ (c .before .before .before .before .before .before .if2 .left), f21, lt-ltb _ _ (rw (c .before .before .struct-len .ensures) at (c .before .if3 .taken)), c .refused4 .ensures)
+    let c3 = c .before .before .before in
+    let c6 = c3 .before .before .before in
+    let f21 : rule21 (c6 .before .before .before .before .args .image .now) ≡ Nothing = rw (c6 .bad-header .ensures) at (c3 .before .enum-told .given .1) in
+    simp (
+      le-ltb _ _ (c6 .before .before .if1 .left),
+      le-ltb _ _ (c6 .before .if2 .left),
+      f21,
+      lt-ltb _ _ (rw (c3 .struct-len .ensures, c .before .before .length-at .ensures) at (c .before .if3 .taken)),
+      c .refused4 .ensures,
+    )
+
+cast-if4 : tie.Need-cast-if4
+cast-if4 c = omega arith
 
 refused-requires-5 : tie.Need-refused-requires-5
 refused-requires-5 c κs = search needs
@@ -64,13 +75,15 @@ refused-requires-5 c κs = search needs
 returns-5 : tie.Need-returns-5
 unfolding judged rule20 rule22
 returns-5 c =
-    let f21 : rule21 (c .before .before .before .before .before .before .before .before .before .before .args .image .now) ≡ Nothing = rw (c .before .before .before .before .before .before .bad-header .ensures) at (c .before .before .before .before .enum-told .given .1) in
+    let c4 = c .before .before .before .before in
+    let c7 = c4 .before .before .before in
+    let f21 : rule21 (c7 .before .before .before .before .args .image .now) ≡ Nothing = rw (c7 .bad-header .ensures) at (c4 .before .enum-told .given .1) in
     simp (
-      le-ltb _ _ (c .before .before .before .before .before .before .before .before .if1 .left),
-      le-ltb _ _ (c .before .before .before .before .before .before .before .if2 .left),
+      le-ltb _ _ (c7 .before .before .if1 .left),
+      le-ltb _ _ (c7 .before .if2 .left),
       f21,
-      le-ltb _ _ (rw (c .before .before .before .struct-len .ensures) at (c .before .before .if3 .left)),
-      lt-ltb _ _ (rw (c .before .before .before .struct-len .ensures) at (c .before .if4 .taken)),
+      le-ltb _ _ (rw (c4 .struct-len .ensures, c .before .before .before .length-at .ensures) at (c .before .before .if3 .left)),
+      lt-ltb _ _ (rw (c4 .struct-len .ensures) at (c .before .if4 .taken)),
       c .refused5 .ensures,
     )
 
@@ -80,13 +93,15 @@ judge-walk-requires c κs = search needs
 returns-6 : tie.Need-returns-6
 unfolding judged rule20 rule22
 returns-6 c =
-    let f21 : rule21 (c .before .before .before .before .before .before .before .before .before .before .args .image .now) ≡ Nothing = rw (c .before .before .before .before .before .before .bad-header .ensures) at (c .before .before .before .before .enum-told .given .1) in
+    let c4 = c .before .before .before .before in
+    let c7 = c4 .before .before .before in
+    let f21 : rule21 (c7 .before .before .before .before .args .image .now) ≡ Nothing = rw (c7 .bad-header .ensures) at (c4 .before .enum-told .given .1) in
     simp (
-      le-ltb _ _ (c .before .before .before .before .before .before .before .before .if1 .left),
-      le-ltb _ _ (c .before .before .before .before .before .before .before .if2 .left),
+      le-ltb _ _ (c7 .before .before .if1 .left),
+      le-ltb _ _ (c7 .before .if2 .left),
       f21,
-      le-ltb _ _ (rw (c .before .before .before .struct-len .ensures) at (c .before .before .if3 .left)),
-      le-ltb _ _ (rw (c .before .before .before .struct-len .ensures) at (c .before .if4 .left)),
+      le-ltb _ _ (rw (c4 .struct-len .ensures, c .before .before .before .length-at .ensures) at (c .before .before .if3 .left)),
+      le-ltb _ _ (rw (c4 .struct-len .ensures) at (c .before .if4 .left)),
     ) (c .judge-walk .ensures)
 
 pub judge-spec : {M : Type 1} → statement M
@@ -103,9 +118,10 @@ judge-spec =
     returns-3
     enum-told
     struct-len-requires
-    cast-length
+    length-at-requires
     refused-requires-4
     returns-4
+    cast-if4
     refused-requires-5
     returns-5
     judge-walk-requires

@@ -3,15 +3,20 @@
 use Prim.Native.Nat.{ℕ, _+_, _*_, _%_, _≤_, _<_}
 use mathlib.Core.Bool.{not}
 use mathlib.Core.List.{List, [], _∷_}
+use mathlib.Core.Logic.{_⊎_}
 use mathlib.Core.Path.{_≡_, ap}
 use native.Mathlib.Omega.{arith}
 use lib.Dec.{eqb, ltb}
 use lib.ListN.{length}
-use Rattle.board_layout.specs.Layout.{signatureAt, majorAt, lengthAt, structLen, endAt, next, structures, mapAt, boardAt, laterAt, records, mapCount}
+use Rattle.board_layout.specs.Layout.{signatureAt, majorAt, lengthAt, structLen, endAt, next, structures, headerLength, mapAt, boardAt, laterAt, records, mapCount}
 use Rattle.board_layout.specs.Places.{Crc32, CrcLength, MapData, mapRecordSize}
+use Rattle.board_layout.specs.Shapes.{reservedFrom, reservedTo}
+use Rattle.board_layout.specs.declared.Header.{Header}
+use Rattle.board_layout.specs.declared.Header.the-variants.{Short}
 use Rattle.board_layout.specs.declared.Records.the-variants.{Map}
+use Rattle.board_layout.specs.declared.Shape.the-variants.{Eeprom}
 use Rattle.board_rules.specs.Judged.{rules, judged}
-use Rattle.board_rules.specs.Rules.{headerLength, rule20, rule21, rule22, rule23, rule25, rule26, covered, checkOver, rule27, rule28}
+use Rattle.board_rules.specs.Rules.{rule20, rule21, rule22, rule23, rule25, rule26, covered, checkOver, rule27, rule28}
 use Rattle.board_rules.specs.laws.Heads as heads
 use Rattle.board_rules.specs.laws.Order as order
 use Rattle.board_rules.specs.laws.Walk.{Fits}
@@ -58,24 +63,31 @@ module _ (k : Kinds) (s : List ℕ) (n : ℕ) (e : judged k s ≡ Accepted n) wh
   kept26 = accepted-clear .1 .1 .1 .1 .1 .1 .0
 
   -- ---- rules 20 to 22
-  -- what is lent: from 30h to 65,536 bytes
-  pub lent-within : (headerLength ≤ length s) × (length s ≤ 65536)
+  -- what is lent: from 20h to 65,536 bytes
+  pub lent-within : (headerLength Short ≤ length s) × (length s ≤ 65536)
   unfolding rule20
   lent-within =
-      let t = checks-none (when (ltb (length s) headerLength) 0 ∷ when (ltb 65536 (length s)) 0 ∷ []) (accepted-clear .0) in
-      (kept-under (length s) headerLength 0 (t .0), kept-under 65536 (length s) 0 (t .1 .0))
+      let t = checks-none (when (ltb (length s) (headerLength Short)) 0 ∷ when (ltb 65536 (length s)) 0 ∷ []) (accepted-clear .0) in
+      (kept-under (length s) (headerLength Short) 0 (t .0), kept-under 65536 (length s) 0 (t .1 .0))
 
-  -- StructLen is at least 30h, and not above what is lent
-  pub struct-len-within : (headerLength ≤ structLen s) × (structLen s ≤ length s)
+  -- StructLen covers the header, and is not above what is lent
+  pub struct-len-within : (lengthAt s 0 ≤ structLen s) × (structLen s ≤ length s)
   struct-len-within = heads.struct-len-within s kept22
 
-  -- the header is a `$Eeprom$` of VerMajor 1 and Length 30h
-  pub header-is : (signatureAt s 0 ≡ eeprom) × (majorAt s 0 ≡ 1) × (lengthAt s 0 ≡ headerLength)
+  -- the header is a `$Eeprom$` of VerMajor 1, with the Length of one of the two headers
+  pub header-is : (signatureAt s 0 ≡ eeprom) × (majorAt s 0 ≡ 1) × ((h : Header) × (lengthAt s 0 ≡ headerLength h))
   header-is = heads.header-is s kept21
 
-  -- all that the laws below use of that Length
+  -- all that is used of that Length: its bounds, and how its Reserved row lies in it
   pub header-length : (0x20 ≤ lengthAt s 0) × (lengthAt s 0 ≤ 0x30) × (lengthAt s 0 % 16 ≡ 0)
   header-length = heads.header-length s kept21
+
+  pub header-covers : (reservedTo Eeprom ≤ lengthAt s 0) ⊎ (lengthAt s 0 ≡ reservedFrom Eeprom)
+  header-covers = heads.header-covers s kept21
+
+  -- so StructLen is at least 20h
+  pub struct-len-least : 0x20 ≤ structLen s
+  struct-len-least = omega (arith, header-length .0, struct-len-within .0)
 
   -- the map starts where the header ends
   pub map-place : mapAt s ≡ lengthAt s 0
@@ -154,7 +166,7 @@ module _ (k : Kinds) (s : List ℕ) (n : ℕ) (e : judged k s ≡ Accepted n) wh
   -- ---- rule 27
   -- the bytes that Crc32 covers lie within StructLen
   pub covered-within : (0x20 ≤ covered s) × (covered s ≤ structLen s)
-  covered-within = heads.covered-within s kept22 kept23 kept26
+  covered-within = heads.covered-within s kept21 kept22 kept23 kept26
 
   -- Crc32 is theirs, and CrcLength is how many they are
   pub check-holds : (le32 s Crc32 ≡ checkOver s (covered s)) × (le32 s CrcLength ≡ covered s)

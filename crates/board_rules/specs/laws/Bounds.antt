@@ -172,7 +172,7 @@ module _ (k : Kinds) (s : List ℕ) where
   bounded : Bounded 65536 (table k s)
   bounded =
       row (λ q b. elim b [ Broken20.tooFewLent e h ↦ omega arith | Broken20.tooManyLent e h ↦ omega arith ]) λ lent.
-      row (λ q b. elim b [ Broken21.headerSignature e h ↦ omega arith | Broken21.headerMajor e h ↦ omega arith | Broken21.headerLengthOther e h ↦ omega arith ]) λ _.
+      row (λ q b. elim b [ Broken21.headerSignature e h ↦ omega arith | Broken21.headerMajor e h ↦ omega arith | Broken21.headerLengthOther e h l ↦ omega arith ]) λ _.
       row (λ q b. elim b [ Broken22.structLenUnder e h ↦ omega arith | Broken22.structLenAbove e h ↦ omega arith ]) λ len.
       let most : structLen s ≤ 65536 = struct-len-most lent len in (
         misplaced-most most,

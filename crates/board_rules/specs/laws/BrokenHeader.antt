@@ -1,19 +1,22 @@
 -- Rules 20 to 22 and 27 find the smallest place where the paper's rows are broken: tests of what is lent and of the header's fields. Assumes nothing.
 use Prim.Native.Nat.{ℕ}
+use mathlib.Core.Bool.{not}
 use mathlib.Core.List.{List, [], _∷_}
 use mathlib.Core.Logic.{inl, inr}
 use mathlib.Core.Path.{_≡_}
 use native.Mathlib.Omega.{arith}
 use lib.ListN.{length}
-use Rattle.board_layout.specs.Layout.{signatureAt, majorAt, lengthAt, structLen}
+use Rattle.board_layout.specs.Layout.{signatureAt, majorAt, lengthAt, structLen, headerLength}
 use Rattle.board_layout.specs.Places.{StructLen, Crc32, CrcLength}
+use Rattle.board_layout.specs.declared.Header.the-variants.{Short, Long}
 use Rattle.board_rules.specs.Broken.{Expected, Broken20, Broken21, Broken22, Broken27}
-use Rattle.board_rules.specs.Rules.{headerLength, rule20, rule21, rule22, rule25, covered, checkOver, rule27}
+use Rattle.board_rules.specs.Rules.{isHeaderLength, rule20, rule21, rule22, rule25, covered, checkOver, rule27}
 use Rattle.board_rules.specs.laws.BrokenPlaces.{expected-is}
 use Rattle.chain.specs.Finds.{Finds}
 use Rattle.chain.specs.declared.Found.the-variants.{Nothing}
-use Rattle.chain.specs.laws.Clauses.{Clause, over, under, other, foundIn, AnyOf, finds-any}
+use Rattle.chain.specs.laws.Clauses.{Clause, test, over, under, other, foundIn, AnyOf, finds-any}
 use Rattle.chain.specs.laws.Finds.{finds-as, finds-one}
+use Rattle.chain.specs.laws.Means.{Means, means-equal, means-not, means-either}
 use Rattle.kinds.specs.Signatures.{eeprom}
 use Rattle.kinds.specs.declared.Kinds.{Kinds}
 use Rattle.octets.specs.Bytes.{le32}
@@ -21,7 +24,7 @@ use Rattle.octets.specs.Bytes.{le32}
 module _ (k : Kinds) (s : List ℕ) where
   -- ---- rule 20
   abbrev lentTests : List Clause
-  lentTests = under (λ z. length s) headerLength 0 ∷ over (λ z. length s) 65536 0 ∷ []
+  lentTests = under (λ z. length s) (headerLength Short) 0 ∷ over (λ z. length s) 65536 0 ∷ []
 
   pub finds20 : Finds (Broken20 k s) (rule20 s)
   unfolding rule20
@@ -37,11 +40,19 @@ module _ (k : Kinds) (s : List ℕ) where
       back z (Broken20.tooManyLent e h) = inr (inl (e, h))
 
   -- ---- rule 21
+  -- a Length that is neither
+  neither-length : Means (not (isHeaderLength (lengthAt s 0))) ((lengthAt s 0 ≡ headerLength Short → ⊥) × (lengthAt s 0 ≡ headerLength Long → ⊥))
+  neither-length =
+      let m = means-not (means-either (means-equal (lengthAt s 0) (headerLength Short)) (means-equal (lengthAt s 0) (headerLength Long))) in (
+        λ e. (λ d. m .0 e (inl d), λ d. m .0 e (inr d)),
+        λ h. m .1 (λ d. elim d [ inl x ↦ h .0 x | inr x ↦ h .1 x ]),
+      )
+
   abbrev headerTests : List Clause
   headerTests =
       other (λ z. signatureAt s 0) eeprom 0
       ∷ other (λ z. majorAt s 0) 1 0
-      ∷ other (λ z. lengthAt s 0) headerLength 0
+      ∷ test (λ z. (lengthAt s 0 ≡ headerLength Short → ⊥) × (lengthAt s 0 ≡ headerLength Long → ⊥)) 0 neither-length
       ∷ []
 
   pub finds21 : Finds (Broken21 k s) (rule21 s)
@@ -51,18 +62,18 @@ module _ (k : Kinds) (s : List ℕ) where
       to : (z : ℕ) → AnyOf headerTests z → Broken21 k s z
       to z (inl h) = Broken21.headerSignature (h .0) (h .1)
       to z (inr (inl h)) = Broken21.headerMajor (h .0) (h .1)
-      to z (inr (inr (inl h))) = Broken21.headerLengthOther (h .0) (h .1)
+      to z (inr (inr (inl h))) = Broken21.headerLengthOther (h .0) (h .1 .0) (h .1 .1)
       to z (inr (inr (inr h))) = absurd h
 
       back : (z : ℕ) → Broken21 k s z → AnyOf headerTests z
       back z (Broken21.headerSignature e h) = inl (e, h)
       back z (Broken21.headerMajor e h) = inr (inl (e, h))
-      back z (Broken21.headerLengthOther e h) = inr (inr (inl (e, h)))
+      back z (Broken21.headerLengthOther e h l) = inr (inr (inl (e, (h, l))))
 
   -- ---- rule 22
   abbrev structLenTests : List Clause
   structLenTests =
-      under (λ z. structLen s) headerLength StructLen ∷ over (λ z. structLen s) (length s) StructLen ∷ []
+      under (λ z. structLen s) (lengthAt s 0) StructLen ∷ over (λ z. structLen s) (length s) StructLen ∷ []
 
   pub finds22 : Finds (Broken22 k s) (rule22 s)
   unfolding rule22

@@ -8,10 +8,11 @@ use native.Mathlib.Omega.{arith}
 use lib.ListN.{length, take, length-take}
 use lib.Seq.{take-all, getD-take, length-take-le}
 use borrow.Author.Tests.{lt-ltb, le-ltb}
-use Rattle.board_layout.specs.Layout.{structLen}
+use Rattle.board_layout.specs.Layout.{structLen, headerLength}
+use Rattle.board_layout.specs.declared.Header.the-variants.{Short}
 use Rattle.board_rules.specs.Judged.{judged}
-use Rattle.board_rules.specs.Rules.{headerLength, rule20}
-use Rattle.board_rules.specs.laws.Accepted.{lent-within, struct-len-within}
+use Rattle.board_rules.specs.Rules.{rule20}
+use Rattle.board_rules.specs.laws.Accepted.{lent-within, struct-len-within, struct-len-least}
 use Rattle.board_rules.specs.laws.Same.{judged-same}
 use Rattle.chain.specs.laws.Below.{below}
 use Rattle.kinds.specs.declared.Kinds.{Kinds}
@@ -22,7 +23,7 @@ use Rattle.verdict.specs.declared.Judged.the-variants.{Accepted}
 -- over 65,536 bytes lent: 20 at 0
 pub over-long : (k : Kinds) (s : List ℕ) → 65536 < length s → judged k s ≡ refusal 20 0
 unfolding judged rule20
-over-long k s h = rw (le-ltb (length s) headerLength (omega arith), lt-ltb 65536 (length s) h)
+over-long k s h = rw (le-ltb (length s) (headerLength Short) (omega arith), lt-ltb 65536 (length s) h)
 
 -- so n bytes of an image, n over 65,536, are judged as the image is
 pub judged-front : (k : Kinds) (s : List ℕ) (n : ℕ) → 65536 < n → judged k (take n s) ≡ judged k s
@@ -38,7 +39,7 @@ pub same-accepted :
     → judged k t ≡ Accepted count
 same-accepted k s t count e same whole most =
     let within = struct-len-within k s count e in
-    sym (judged-same s t (within .0) same (within .1) whole (lent-within k s count e .1) most k) ∙ e
+    sym (judged-same s t (struct-len-least k s count e) same (within .1) whole (lent-within k s count e .1) most k) ∙ e
 
 -- so its first StructLen bytes are
 pub front-accepted : (k : Kinds) (s : List ℕ) (count : ℕ) → judged k s ≡ Accepted count → judged k (take (structLen s) s) ≡ Accepted count

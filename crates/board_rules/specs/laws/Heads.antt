@@ -3,18 +3,23 @@
 use Prim.Native.Nat.{ℕ, _+_, _-_, _*_, _/_, _%_, _≤_, _<_}
 use mathlib.Core.Bool.{Bool, true, false, not, _&&_, and-eq-true-iff}
 use mathlib.Core.List.{List, [], _∷_}
+use mathlib.Core.Logic.{_⊎_, inl, inr}
 use mathlib.Core.Path.{_≡_, refl, sym, ap, subst, _∙_}
 use native.Mathlib.Omega.{arith}
 use lib.Dec.{eqb, ltb, leb}
 use lib.ListN.{length}
 use borrow.Author.Tests.{eq-eqb, eqb-true, leb-true, not-false}
 use Rattle.board_fields.specs.Heads.{mapLengthFits, badMapHead, badBoardHead, badPromSigHead}
-use Rattle.board_layout.specs.Layout.{signatureAt, majorAt, lengthAt, structLen, endAt, round16, next, structures, mapAt, boardAt, laterAt, records, mapCount}
+use Rattle.board_layout.specs.Layout.{signatureAt, majorAt, lengthAt, structLen, endAt, round16, next, structures, headerLength, mapAt, boardAt, laterAt, records, mapCount}
 use Rattle.board_layout.specs.Places.{StructLen, MapData, mapRecordSize, EepromSig}
+use Rattle.board_layout.specs.Shapes.{reservedFrom, reservedTo}
+use Rattle.board_layout.specs.declared.Header.{Header}
+use Rattle.board_layout.specs.declared.Header.the-variants.{Short, Long}
 use Rattle.board_layout.specs.declared.Records.the-variants.{Map}
-use Rattle.board_layout.specs.laws.Layout.{next-grows, next-round, next-whole, round-same}
+use Rattle.board_layout.specs.declared.Shape.the-variants.{Eeprom}
+use Rattle.board_layout.specs.laws.Layout.{next-grows, next-round, next-whole, round-same, header-size, header-row}
 use Rattle.board_layout.specs.laws.Records as layout
-use Rattle.board_rules.specs.Rules.{headerLength, rule21, rule22, rule23, expected, isEarly, outOfOrder, rule25, promSigAt, onFound, rule26, coveredUpTo, covered}
+use Rattle.board_rules.specs.Rules.{isHeaderLength, rule21, rule22, rule23, expected, isEarly, outOfOrder, rule25, promSigAt, onFound, rule26, coveredUpTo, covered}
 use Rattle.board_rules.specs.laws.Order.{map-second, board-third}
 use Rattle.board_rules.specs.laws.Walk.{prom-sig-fits, structures-are}
 use Rattle.chain.specs.All.{All}
@@ -26,6 +31,7 @@ use Rattle.chain.specs.declared.Found.the-variants.{At, Nothing}
 use Rattle.chain.specs.laws.All.{all-both}
 use Rattle.chain.specs.laws.Checks.{checks-none, kept-true, kept-equal, kept-under}
 use Rattle.chain.specs.laws.First.{first-all, when-nothing}
+use Rattle.chain.specs.laws.Means.{means-equal, means-either}
 use Rattle.chain.specs.laws.Places.{chain-within}
 use Rattle.chain.specs.laws.Steps.{steps-count, steps-nth}
 use Rattle.kinds.specs.Signatures.{eeprom, eeprMap, brdInfo, promSig}
@@ -38,22 +44,41 @@ map-length n e =
     let b : (n - MapData) % mapRecordSize ≡ 0 = eqb-true ((n - MapData) % mapRecordSize) 0 (t .1) in
     (a, omega arith)
 
+-- a Length that rule 21 lets pass is that of a header, and each header's is one
+pub header-of : (n : ℕ) → isHeaderLength n ≡ true → (h : Header) × (n ≡ headerLength h)
+header-of n e =
+    elim (means-either (means-equal n (headerLength Short)) (means-equal n (headerLength Long)) .0 e) [ inl d ↦ (Short, d) | inr d ↦ (Long, d) ]
+
+pub header-good : (h : Header) → isHeaderLength (headerLength h) ≡ true
+header-good Short = refl
+header-good Long = refl
+
 module _ (s : List ℕ) where
   -- ---- rule 21: the header
-  pub header-is : rule21 s ≡ Nothing → (signatureAt s 0 ≡ eeprom) × (majorAt s 0 ≡ 1) × (lengthAt s 0 ≡ headerLength)
+  pub header-is : rule21 s ≡ Nothing → (signatureAt s 0 ≡ eeprom) × (majorAt s 0 ≡ 1) × ((h : Header) × (lengthAt s 0 ≡ headerLength h))
   unfolding rule21
   header-is e =
       let t = checks-none
       (when (not (eqb (signatureAt s 0) eeprom)) 0
       ∷ when (not (eqb (majorAt s 0) 1)) 0
-      ∷ when (not (eqb (lengthAt s 0) headerLength)) 0
+      ∷ when (not (isHeaderLength (lengthAt s 0))) 0
       ∷ [])
-      e in
-      (kept-equal (signatureAt s 0) eeprom 0 (t .0), kept-equal (majorAt s 0) 1 0 (t .1 .0), kept-equal (lengthAt s 0) headerLength 0 (t .1 .1 .0))
+      e in (
+        kept-equal (signatureAt s 0) eeprom 0 (t .0),
+        kept-equal (majorAt s 0) 1 0 (t .1 .0),
+        header-of (lengthAt s 0) (kept-true (isHeaderLength (lengthAt s 0)) 0 (t .1 .1 .0)),
+      )
 
-  -- all that is used of the header's Length: with 20h too, no law below would change
+  -- all that is used of the header's Length: its bounds, and how its Reserved row lies in it
   pub header-length : rule21 s ≡ Nothing → (0x20 ≤ lengthAt s 0) × (lengthAt s 0 ≤ 0x30) × (lengthAt s 0 % 16 ≡ 0)
-  header-length e = let h = header-is e .2 in (omega arith, omega arith, omega arith)
+  header-length e =
+      let h = header-is e .2 in
+      subst (λ (n : ℕ). (0x20 ≤ n) × (n ≤ 0x30) × (n % 16 ≡ 0)) (sym (h .1)) (header-size (h .0))
+
+  pub header-covers : rule21 s ≡ Nothing → (reservedTo Eeprom ≤ lengthAt s 0) ⊎ (lengthAt s 0 ≡ reservedFrom Eeprom)
+  header-covers e =
+      let h = header-is e .2 in
+      subst (λ (n : ℕ). (reservedTo Eeprom ≤ n) ⊎ (n ≡ reservedFrom Eeprom)) (sym (h .1)) (header-row (h .0))
 
   -- the map starts where the header ends
   pub map-place : rule21 s ≡ Nothing → mapAt s ≡ lengthAt s 0
@@ -64,11 +89,11 @@ module _ (s : List ℕ) where
       next-round s 0 (omega (arith, h .0)) ∙ ap round16 z ∙ round-same (lengthAt s 0) (h .2)
 
   -- ---- rule 22: StructLen covers the header, and is not above what is lent
-  pub struct-len-within : rule22 s ≡ Nothing → (headerLength ≤ structLen s) × (structLen s ≤ length s)
+  pub struct-len-within : rule22 s ≡ Nothing → (lengthAt s 0 ≤ structLen s) × (structLen s ≤ length s)
   unfolding rule22
   struct-len-within e =
-      let t = checks-none (when (ltb (structLen s) headerLength) StructLen ∷ when (ltb (length s) (structLen s)) StructLen ∷ []) e in
-      (kept-under (structLen s) headerLength StructLen (t .0), kept-under (length s) (structLen s) StructLen (t .1 .0))
+      let t = checks-none (when (ltb (structLen s) (lengthAt s 0)) StructLen ∷ when (ltb (length s) (structLen s)) StructLen ∷ []) e in
+      (kept-under (structLen s) (lengthAt s 0) StructLen (t .0), kept-under (length s) (structLen s) StructLen (t .1 .0))
 
   -- ---- rule 26: the heads of map, board and `$PromSig`
   abbrev headChecks : List Found
@@ -133,14 +158,14 @@ module _ (s : List ℕ) where
   pub records-fit : rule26 s ≡ Nothing → All (λ r. (mapAt s + MapData ≤ r) × (r + mapRecordSize ≤ endAt s (mapAt s))) (records Map s (mapAt s))
   records-fit e = layout.records-fit Map s (mapAt s) (omega (arith, map-head e .1)) (omega (arith, map-head e .1))
 
-  -- ---- rules 22, 23 and 26: a `$PromSig` reaches to its hash, so the bytes that Crc32 covers lie within StructLen
-  pub covered-within : rule22 s ≡ Nothing → rule23 s ≡ Nothing → rule26 s ≡ Nothing → (0x20 ≤ covered s) × (covered s ≤ structLen s)
+  -- ---- rules 21 to 23 and 26: a `$PromSig` reaches to its hash, so the bytes that Crc32 covers lie within StructLen
+  pub covered-within : rule21 s ≡ Nothing → rule22 s ≡ Nothing → rule23 s ≡ Nothing → rule26 s ≡ Nothing → (0x20 ≤ covered s) × (covered s ≤ structLen s)
   unfolding covered endAt
-  covered-within len walk e = go (promSigAt s) refl
+  covered-within head len walk e = go (promSigAt s) refl
     where
       go : (f : Found) → promSigAt s ≡ f → (0x20 ≤ coveredUpTo (structLen s) f) × (coveredUpTo (structLen s) f ≤ structLen s)
       go (At p) d = (omega arith, omega (arith, prom-sig-head e p d .1, prom-sig-fits s walk p d .ends))
-      go Nothing d = (omega (arith, struct-len-within len .0), omega arith)
+      go Nothing d = (omega (arith, header-length head .0, struct-len-within len .0), omega arith)
 
   -- ---- rules 21 and 25: a `$PromSig` is one of the later structures, and the last
   abbrev pub Last : ℕ → Type 0

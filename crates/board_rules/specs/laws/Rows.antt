@@ -1,8 +1,9 @@
--- In an accepted image the reserved row of a known structure lies within its Length, only the first structure is a `$Eeprom$`, and only the second a `$EeprMap`.
+-- In an accepted image the reserved row of a known structure lies within its Length or starts where that ends, only the first structure is a `$Eeprom$`, and only the second a `$EeprMap`.
 -- With VerMinor 0 the reserved bytes of a known structure and of its records are zero. Assumes nothing.
 use Prim.Native.Nat.{ℕ, _+_, _-_, _≤_, _<_}
 use mathlib.Core.Bool.{Bool, true, cond}
 use mathlib.Core.List.{List, [], _∷_}
+use mathlib.Core.Logic.{_⊎_, inl}
 use mathlib.Core.Path.{_≡_, refl, sym, subst}
 use native.Mathlib.Omega.{arith}
 use borrow.Author.Tests.{le-leb, eq-eqb}
@@ -18,7 +19,7 @@ use Rattle.board_layout.specs.declared.Shape.the-variants.{Eeprom, EeprMap, Brd
 use Rattle.board_records.specs.Records.{fieldUsed, recordFrom, recordTo, recordUsed}
 use Rattle.board_rules.specs.Judged.{judged}
 use Rattle.board_rules.specs.Rules.{expected, isEarly, outOfOrder, rule25}
-use Rattle.board_rules.specs.laws.Accepted.{accepted-clear, header-is, structures-are, map-second, board-third, map-head, records-fit, board-head}
+use Rattle.board_rules.specs.laws.Accepted.{accepted-clear, header-is, header-covers, structures-are, map-second, board-third, map-head, records-fit, board-head}
 use Rattle.board_rules.specs.laws.Fields.{inside-good, reserved-zero}
 use Rattle.board_rules.specs.laws.Tables.{later-rows, inside-kept, Whole, gpio-whole}
 use Rattle.chain.specs.All.{All}
@@ -40,8 +41,8 @@ use Rattle.verdict.specs.declared.Judged.the-variants.{Accepted}
 
 -- ---- the structures of an accepted image
 pub record Placed (k : Kinds) (s : List ℕ) (p : ℕ) : Type 0 where
-  -- the reserved row of a known one lies within its Length
-  pub row : knows k (shapeAt s p) ≡ true → reservedTo (shapeAt s p) ≤ lengthAt s p
+  -- the reserved row of a known one lies within its Length, or starts where that ends
+  pub row : knows k (shapeAt s p) ≡ true → (reservedTo (shapeAt s p) ≤ lengthAt s p) ⊎ (lengthAt s p ≡ reservedFrom (shapeAt s p))
   -- only the first is a header, and only the second a map
   pub header : shapeAt s p ≡ Eeprom → p ≡ 0
   pub map : shapeAt s p ≡ EeprMap → p ≡ mapAt s
@@ -51,7 +52,7 @@ module _ (k : Kinds) (s : List ℕ) (n : ℕ) (e : judged k s ≡ Accepted n) wh
   unfolding shapeAt shapeOf
   header-placed =
       record {
-        row = λ h. rw (header-is k s n e .0) (omega (arith, header-is k s n e .2));
+        row = λ h. rw (header-is k s n e .0) (header-covers k s n e);
         header = λ h. refl;
         map = λ h. let z : Eeprom ≡ EeprMap = rw (header-is k s n e .0) at h in cc;
       }
@@ -60,7 +61,7 @@ module _ (k : Kinds) (s : List ℕ) (n : ℕ) (e : judged k s ≡ Accepted n) wh
   unfolding shapeAt shapeOf
   map-placed =
       record {
-        row = λ h. rw (map-second k s n e .1) (omega (arith, map-head k s n e .1));
+        row = λ h. rw (map-second k s n e .1) (inl (omega (arith, map-head k s n e .1)));
         header = λ h. let z : EeprMap ≡ Eeprom = rw (map-second k s n e .1) at h in cc;
         map = λ h. refl;
       }
@@ -69,7 +70,7 @@ module _ (k : Kinds) (s : List ℕ) (n : ℕ) (e : judged k s ≡ Accepted n) wh
   unfolding shapeAt shapeOf
   board-placed =
       record {
-        row = λ h. rw (board-third k s n e .1) (omega (arith, board-head k s n e .1));
+        row = λ h. rw (board-third k s n e .1) (inl (omega (arith, board-head k s n e .1)));
         header = λ h. let z : BrdInfo ≡ Eeprom = rw (board-third k s n e .1) at h in cc;
         map = λ h. let z : BrdInfo ≡ EeprMap = rw (board-third k s n e .1) at h in cc;
       }
@@ -85,7 +86,7 @@ module _ (k : Kinds) (s : List ℕ) (n : ℕ) (e : judged k s ≡ Accepted n) wh
       let w : reservedTo (shapeAt s p) ≤ fixedPart (shapeAt s p) =
       later-rows g (majorAt s p) (when-nothing (isEarly g) p (orElse-left (when (isEarly g) p) _ o)) in
       record {
-        row = λ h. omega (arith, w, inside-kept s p (shapeAt s p) (i h) .0);
+        row = λ h. inl (omega (arith, w, inside-kept s p (shapeAt s p) (i h) .0));
         header = λ h. let z : reservedTo Eeprom ≤ fixedPart Eeprom = subst (λ (a : Shape). reservedTo a ≤ fixedPart a) h w in absurd (omega arith);
         map = λ h. let z : reservedTo EeprMap ≤ fixedPart EeprMap = subst (λ (a : Shape). reservedTo a ≤ fixedPart a) h w in absurd (omega arith);
       }
@@ -135,12 +136,9 @@ module _ (k : Kinds) (s : List ℕ) (n : ℕ) (e : judged k s ≡ Accepted n) (i
   kept : reservedUsed s p (shapeAt s p) ≡ Nothing
   kept = nth-all (λ p. knows k (shapeAt s p) ≡ true → reservedUsed s p (shapeAt s p) ≡ Nothing) (structures s) i p (reserved-zero k s n e) at on
 
-  -- its own reserved bytes
-  pub row-zero : minorAt s p ≡ 0 → (q : ℕ) → p + reservedFrom (shapeAt s p) ≤ q → q < p + reservedTo (shapeAt s p) → byte s q ≡ 0
-  unfolding endAt
-  row-zero h =
-      field-zero s (reservedFrom (shapeAt s p)) (reservedTo (shapeAt s p)) (endAt s p) p (unused s p (shapeAt s p) h kept .0)
-      (omega (arith, placed .row on))
+  -- its own reserved bytes, where they lie within its Length
+  pub row-zero : minorAt s p ≡ 0 → p + reservedTo (shapeAt s p) ≤ endAt s p → (q : ℕ) → p + reservedFrom (shapeAt s p) ≤ q → q < p + reservedTo (shapeAt s p) → byte s q ≡ 0
+  row-zero h whole = field-zero s (reservedFrom (shapeAt s p)) (reservedTo (shapeAt s p)) (endAt s p) p (unused s p (shapeAt s p) h kept .0) whole
 
   -- its records are whole
   abbrev Fit : Records → ℕ → Type 0

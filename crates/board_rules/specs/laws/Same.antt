@@ -16,16 +16,17 @@ use Rattle.board_fields.specs.Inside.{badInside}
 use Rattle.board_fields.specs.Map.{badMap, badBoardType}
 use Rattle.board_fields.specs.Reserved.{reservedUsed}
 use Rattle.board_fields.specs.laws.Same.{bad-map-head-same, bad-board-head-same, bad-prom-sig-head-same, bad-hash-same, bad-map-same, repeated-labels-same, bad-board-type-same, reserved-used-same, bad-inside-same}
-use Rattle.board_layout.specs.Layout.{signatureAt, shapeAt, structLen, endAt, next, structures, mapAt, boardAt, laterAt, records}
+use Rattle.board_layout.specs.Layout.{signatureAt, shapeAt, structLen, endAt, next, structures, headerLength, mapAt, boardAt, laterAt, records}
 use Rattle.board_layout.specs.Places.{headSize, StructLen, Crc32, CrcLength}
 use Rattle.board_layout.specs.Shapes.{knows}
+use Rattle.board_layout.specs.declared.Header.the-variants.{Short}
 use Rattle.board_layout.specs.declared.Records.the-variants.{Map}
 use Rattle.board_layout.specs.declared.Shape.{Shape}
 use Rattle.board_layout.specs.laws.Layout.{next-grows, end-next}
 use Rattle.board_layout.specs.laws.Same.{signature-same, major-same, length-same, shape-same, end-same, next-same, struct-len-same, part-same, head-same, walk-same, structures-same, map-place-same}
 use Rattle.board_records.specs.Records.{repeatedLabel}
 use Rattle.board_rules.specs.Judged.{rules, judged}
-use Rattle.board_rules.specs.Rules.{headerLength, rule20, rule21, rule22, misplaced, rule23, gapUsed, rule24, expected, isEarly, outOfOrder, rule25, isPromSig, promSigAt, onFound, rule26, coveredUpTo, covered, checkOver, rule27, rule28, rule29, rule30, rule31, onKnown, rule32, rule33, rule34}
+use Rattle.board_rules.specs.Rules.{isHeaderLength, rule20, rule21, rule22, misplaced, rule23, gapUsed, rule24, expected, isEarly, outOfOrder, rule25, isPromSig, promSigAt, onFound, rule26, coveredUpTo, covered, checkOver, rule27, rule28, rule29, rule30, rule31, onKnown, rule32, rule33, rule34}
 use Rattle.chain.specs.laws.Checks.{kept-under}
 use Rattle.board_rules.specs.laws.Heads.{map-head, board-head, prom-sig-head, covered-within}
 use Rattle.board_rules.specs.laws.Order.{expected-there}
@@ -48,7 +49,7 @@ use Rattle.octets.specs.laws.Same.{Same, le32-same, nonzero-same, take-same}
 use Rattle.verdict.specs.declared.Judged.the-variants.{Accepted}
 use Rattle.verdict.specs.laws.Agree.{Agree, agree-more, agree-answer}
 
-module _ (s t : List ℕ) (long : 0x30 ≤ structLen s) (same : Same s t 0 (structLen s)) where
+module _ (s t : List ℕ) (long : 0x20 ≤ structLen s) (same : Same s t 0 (structLen s)) where
   -- StructLen is one number in both
   len : structLen s ≡ structLen t
   len = struct-len-same s t long same
@@ -66,7 +67,7 @@ module _ (s t : List ℕ) (long : 0x30 ≤ structLen s) (same : Same s t 0 (stru
       checks
       (when (not (eqb (signature-same s t 0 h i) eeprom)) 0
       ∷ when (not (eqb (major-same s t 0 h i) 1)) 0
-      ∷ when (not (eqb (length-same s t 0 h i) headerLength)) 0
+      ∷ when (not (isHeaderLength (length-same s t 0 h i))) 0
       ∷ [])
 
   -- ---- rule 23: what comes after a head that passes StructLen is not read
@@ -261,11 +262,11 @@ module _ (s t : List ℕ) (long : 0x30 ≤ structLen s) (same : Same s t 0 (stru
             ∙ ap (badBoardType t) board-moved
 
         -- rule 27, where both images are lent whole
-        module _ (lent : rule22 s ≡ Nothing) (whole : structLen s ≤ length s) (other : structLen s ≤ length t) where
+        module _ (header : rule21 s ≡ Nothing) (lent : rule22 s ≡ Nothing) (whole : structLen s ≤ length s) (other : structLen s ≤ length t) where
           check-same : checkOver s (covered s) ≡ checkOver t (covered t)
           unfolding checkOver
           check-same =
-              let h : covered s ≤ structLen s = covered-within s lent walk heads .1 in
+              let h : covered s ≤ structLen s = covered-within s header lent walk heads .1 in
               ap (λ (l : List ℕ). crc32 (blank Crc32 4 l))
               (take-same s t (covered s) (part-same s t long same 0 (covered s) h) (omega arith) (omega arith))
               ∙ ap (checkOver t) covered-same
@@ -304,7 +305,7 @@ module _ (s t : List ℕ) (long : 0x30 ≤ structLen s) (same : Same s t 0 (stru
     unfolding rule22
     rule22-same i =
         checks
-        (when (ltb (len i) headerLength) StructLen
+        (when (ltb (len i) (length-same s t 0 (head-same s t long same 0 (omega arith)) i)) StructLen
         ∷ when ((le-ltb (length s) (structLen s) whole ∙ sym (le-ltb (length t) (structLen t) (omega (arith, other, len)))) i) StructLen
         ∷ [])
 
@@ -313,7 +314,7 @@ module _ (s t : List ℕ) (long : 0x30 ≤ structLen s) (same : Same s t 0 (stru
       unfolding rule20
       rule20-same i =
           checks
-          (when ((le-ltb (length s) headerLength (omega arith) ∙ sym (le-ltb (length t) headerLength (omega arith))) i) 0
+          (when ((le-ltb (length s) (headerLength Short) (omega arith) ∙ sym (le-ltb (length t) (headerLength Short) (omega arith))) i) 0
           ∷ when ((le-ltb 65536 (length s) most ∙ sym (le-ltb 65536 (length t) second)) i) 0
           ∷ [])
 
@@ -321,13 +322,13 @@ module _ (s t : List ℕ) (long : 0x30 ≤ structLen s) (same : Same s t 0 (stru
       rules-same : (k : Kinds) → Agree (rules k s) (rules k t)
       rules-same k =
           agree-more rule20-same (λ _.
-          agree-more rule21-same (λ _.
+          agree-more rule21-same (λ header.
           agree-more rule22-same (λ lent.
           agree-more rule23-same (λ walk.
           agree-more (rule24-same walk) (λ _.
           agree-more (rule25-same walk) (λ order.
           agree-more (rule26-same walk order) (λ heads.
-          agree-more (rule27-same walk order heads lent whole other) (λ _.
+          agree-more (rule27-same walk order heads header lent whole other) (λ _.
           agree-more (rule28-same walk order) (λ _.
           agree-more (rule29-same walk order heads) (λ _.
           agree-more (rule30-same walk order heads) (λ _.

@@ -5,6 +5,8 @@ use Rattle.board_writer.proofs.lay.Statement.{statement}
 use Rattle.board_writer.proofs.lay.Tie as tie
 use lib.ListN.{take}
 use lib.Seq.{length-take-le}
+use Rattle.board_layout.specs.Layout.{headerLength}
+use Rattle.board_layout.specs.laws.Layout.{header-size}
 use Rattle.board_writer.specs.Image.{body}
 use Rattle.board_writer.specs.Parts.{parts}
 use Rattle.board_writer.specs.laws.CheckFields.{covers-small}
@@ -36,11 +38,11 @@ cast-covers c =
     let pre = c .before .before .before .before .before .before .before .before .before .before .before .before .before .before .pre in
     let first = c .before .before .before .before .before .before .before .before .before .lay-body .ensures in
     let plain = c .before .before .before .before .before .lay-header .ensures in
-    let x = parts (a .version) (a .map) (a .records .now) (a .board) (a .further .now) in
-    let w = length-take-le 0x30 (a .block .now) (omega (arith, pre .2)) in
+    let x = parts (a .header) (a .version) (a .map) (a .records .now) (a .board) (a .further .now) in
+    let w = length-take-le (headerLength (a .header)) (a .block .now) (omega (arith, pre .2, header-size (a .header) .1)) in
     omega (
       arith,
-      covers-is x (a .end) (pre .0) (pre .1) (take 0x30 (a .block .now)) _ _ w first plain _ (c .covered-length .ensures),
+      covers-is x (a .end) (pre .0) (pre .1) (take (headerLength (a .header)) (a .block .now)) _ _ w first plain _ (c .covered-length .ensures),
       covers-small x (omega (arith, pre .0, pre .1)),
     )
 
@@ -51,9 +53,9 @@ lay-header-requires-2 c κs =
     let pre = c .before .before .before .before .before .before .before .before .before .before .before .before .before .before .before .pre in
     let first = c .before .before .before .before .before .before .before .before .before .before .lay-body .ensures in
     let plain = c .before .before .before .before .before .before .lay-header .ensures in
-    let x = parts (a .version) (a .map) (a .records .now) (a .board) (a .further .now) in
-    let w = length-take-le 0x30 (a .block .now) (omega (arith, pre .2)) in
-    laid-plain x (a .end) (pre .0) (pre .1) (take 0x30 (a .block .now)) _ _ w first plain .long
+    let x = parts (a .header) (a .version) (a .map) (a .records .now) (a .board) (a .further .now) in
+    let w = length-take-le (headerLength (a .header)) (a .block .now) (omega (arith, pre .2, header-size (a .header) .1)) in
+    laid-plain x (a .end) (pre .0) (pre .1) (take (headerLength (a .header)) (a .block .now)) _ _ w first plain .long
 
 sub-check-over : tie.Need-sub-check-over
 sub-check-over c = search needs
@@ -79,9 +81,9 @@ lay-header-requires-3 c κs =
     let plain = c .before .before .before .before .before .before .before .before .before .before .before .before .before .lay-header .ensures in
     let covers = c .before .before .before .before .before .before .before .before .covered-length .ensures in
     let second = c .before .before .before .before .before .before .lay-header2 .ensures in
-    let x = parts (a .version) (a .map) (a .records .now) (a .board) (a .further .now) in
-    let w = length-take-le 0x30 (a .block .now) (omega (arith, pre .2)) in
-    laid-covers x (a .end) (pre .0) (pre .1) (take 0x30 (a .block .now)) _ _ w first plain _ covers _ second .long
+    let x = parts (a .header) (a .version) (a .map) (a .records .now) (a .board) (a .further .now) in
+    let w = length-take-le (headerLength (a .header)) (a .block .now) (omega (arith, pre .2, header-size (a .header) .1)) in
+    laid-covers x (a .end) (pre .0) (pre .1) (take (headerLength (a .header)) (a .block .now)) _ _ w first plain _ covers _ second .long
 
 same-length : tie.Need-same-length
 same-length c = search needs
@@ -104,9 +106,9 @@ returns c =
     let second = c9 .lay-header2 .ensures in
     let check = c4 .check-over .ensures in
     let third = c2 .lay-header3 .ensures in
-    let x = parts (a .version) (a .map) (a .records .now) (a .board) (a .further .now) in
-    let w = length-take-le 0x30 (a .block .now) (omega (arith, pre .2)) in
-    laid-image x (a .end) (pre .0) (pre .1) (take 0x30 (a .block .now)) _ _ w first plain _ covers _ second _ _ check third
+    let x = parts (a .header) (a .version) (a .map) (a .records .now) (a .board) (a .further .now) in
+    let w = length-take-le (headerLength (a .header)) (a .block .now) (omega (arith, pre .2, header-size (a .header) .1)) in
+    laid-image x (a .end) (pre .0) (pre .1) (take (headerLength (a .header)) (a .block .now)) _ _ w first plain _ covers _ second _ _ check third
 
 pub lay-spec : {M : Type 1} → statement M
 lay-spec =

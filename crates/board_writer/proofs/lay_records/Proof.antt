@@ -8,13 +8,13 @@ use Rattle.board_writer.specs.laws.Building.{Laying, laying-start, layin
 use borrow.Author.Needs.{needs}
 
 abbrev Inv-loop : tie.InvT-loop
-Inv-loop records block image₀ count k₀ image k = (k ≤ count) × Laying records block (take 0x60 image₀) k image
+Inv-loop records block at image₀ count k₀ image k = (k ≤ count) × Laying records block at (take at image₀) k image
 
 abbrev μ-loop : tie.MeasureT-loop
-μ-loop records block image₀ count k₀ image k = count - k
+μ-loop records block at image₀ count k₀ image k = count - k
 
 loop-holds : tie.Need-loop-holds Inv-loop μ-loop
-loop-holds c = (omega arith, laying-start _ _ _ (c .before .before .pre .1))
+loop-holds c = (omega arith, laying-start _ _ _ _ (c .before .before .pre .1))
 
 cast-laid-record : tie.Need-cast-laid-record Inv-loop μ-loop
 cast-laid-record c = omega (arith, c .before .before .before .before .pre .0, c .before .loop .inv .0)
@@ -52,7 +52,7 @@ loop-again c =
     let a = c10 .args in
     let more = c6 .loop-test .taken in (
       omega (arith, more),
-      laying-turn (a .records .now) (a .block) (take 0x60 (a .image .now)) _ _ _ _ _ (omega arith) (omega (arith, c10 .pre .0, more))
+      laying-turn (a .records .now) (a .block) (a .at) (take (a .at) (a .image .now)) _ _ _ _ _ (omega arith) (omega (arith, c10 .pre .0, more))
           (c5 .laid-record .ensures) (c2 .put-at .ensures) (c7 .loop .inv .1),
     )
 
@@ -62,7 +62,7 @@ same-length c = search needs
 returns : tie.Need-returns Inv-loop μ-loop
 returns c =
     let a = c .before .before .before .before .args in
-    laying-done (a .records .now) (a .block) (take 0x60 (a .image .now)) _ _ _
+    laying-done (a .records .now) (a .block) (a .at) (take (a .at) (a .image .now)) _ _ _
     (omega (arith, c .loop-test .left, c .before .loop .inv .0)) (c .before .loop .inv .1)
 
 pub lay-records-spec : {M : Type 1} → statement M

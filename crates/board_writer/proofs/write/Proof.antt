@@ -13,8 +13,8 @@ same-length c = search needs
 
 returns : tie.Need-returns
 returns c =
-    let map = c .before .before .before .before .before .before .before .good .1 .0 in
-    let board = c .before .before .before .before .before .before .before .good .1 .1 .1 .0 in (
+    let map = c .before .before .before .before .before .before .before .good .1 .1 .0 in
+    let board = c .before .before .before .before .before .before .before .good .1 .1 .1 .1 .0 in (
       c .before .before .write-parts .ensures,
       record {
         version = omega (arith, c .before .before .before .before .before .before .before .fits .version);

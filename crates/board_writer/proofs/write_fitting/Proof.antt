@@ -22,7 +22,7 @@ returns : tie.Need-returns
 returns c =
     let c5 = c .before .before .before .before .before in
     let a = c5 .args in
-    let x = parts (a .version) (a .map) (a .records .now) (a .board) (a .further .now) in
+    let x = parts (a .header) (a .version) (a .map) (a .records .now) (a .board) (a .further .now) in
     let n = c5 .pre .1 in
     ap (λ (w : WriteAnswer). (w, a .buffer .now)) (c .write-refused .ensures)
     ∙ sym (written-short x (a .buffer .now) (c5 .pre .0) (omega (arith, n, c5 .pre .2)) (omega (arith, n, c .before .if1 .taken)))
@@ -55,7 +55,7 @@ returns-2 c =
     let c9 = c7 .before .before in
     let c13 = c9 .before .before .before .before in
     let a = c13 .args in
-    let x = parts (a .version) (a .map) (a .records .now) (a .board) (a .further .now) in
+    let x = parts (a .header) (a .version) (a .map) (a .records .now) (a .board) (a .further .now) in
     let n = c13 .pre .1 in
     c2 .hand-over .ensures ∙ ap (λ (l : List ℕ). writtenIf l (a .buffer .now) (reviewed l)) (held-part _ (image x) (a .end) (a .end) 65536 refl (c7 .lay .ensures))
     ∙ sym (written-reviewed x (a .buffer .now) (c13 .pre .0) (omega (arith, n, c13 .pre .2)) (omega (arith, n, c9 .if1 .left)))

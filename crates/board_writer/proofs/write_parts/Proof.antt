@@ -15,7 +15,7 @@ returns : tie.Need-returns
 returns c =
     let a = c .before .before .before .before .before .args in
     ap (λ (w : WriteAnswer). (w, a .buffer .now)) (c .write-refused .ensures)
-    ∙ sym (written-odd (parts (a .version) (a .map) (a .records .now) (a .board) (a .further .now)) (a .buffer .now) (c .before .if1 .taken))
+    ∙ sym (written-odd (parts (a .header) (a .version) (a .map) (a .records .now) (a .board) (a .further .now)) (a .buffer .now) (c .before .if1 .taken))
 
 total-length-requires : tie.Need-total-length-requires
 total-length-requires c κs = search needs
@@ -26,14 +26,14 @@ write-refused-requires-2 c κs = search needs
 returns-2 : tie.Need-returns-2
 returns-2 c =
     let a = c .before .before .before .before .before .before .before .args in
-    let x = parts (a .version) (a .map) (a .records .now) (a .board) (a .further .now) in
+    let x = parts (a .header) (a .version) (a .map) (a .records .now) (a .board) (a .further .now) in
     ap (λ (w : WriteAnswer). (w, a .buffer .now)) (c .write-refused2 .ensures)
     ∙ sym (written-over x (a .buffer .now) (whole-records x (c .before .before .before .if1 .left)) (omega (arith, c .before .before .total-length .ensures, c .before .if2 .taken)))
 
 write-fitting-requires : tie.Need-write-fitting-requires
 write-fitting-requires c κs =
     let a = c .before .before .before .before .before .before .before .args in
-    let x = parts (a .version) (a .map) (a .records .now) (a .board) (a .further .now) in
+    let x = parts (a .header) (a .version) (a .map) (a .records .now) (a .board) (a .further .now) in
     (whole-records x (c .before .before .before .if1 .left), omega (arith, c .before .before .total-length .ensures, c .before .if2 .left), omega (arith, c .before .if2 .left))
 
 same-length : tie.Need-same-length

@@ -27,13 +27,13 @@ module _ (x : Parts) (check covers : ℕ) (rest : List ℕ) where
   blocks = simp append-assoc
 
   -- a block that lies after the header, after the map, and after the records
-  after-header : (p q : ℕ) (h : List ℕ) → q ≡ mapPlace + p → Lies fromMap p h → Lies (laid x check covers ++ rest) q h
+  after-header : (p q : ℕ) (h : List ℕ) → q ≡ mapPlace x + p → Lies fromMap p h → Lies (laid x check covers ++ rest) q h
   after-header p q h e lies =
       subst (λ (s : List ℕ). Lies s q h) blocks
       (lies-after (headerBlock x check covers) fromMap h p q
-      (omega (arith, header-length (imageLength x) check covers (x .version))) lies)
+      (omega (arith, header-length (x .header) (imageLength x) check covers (x .version))) lies)
 
-  after-map : (p q : ℕ) (h : List ℕ) → q ≡ mapPlace + MapData + p → Lies fromRecords p h → Lies (laid x check covers ++ rest) q h
+  after-map : (p q : ℕ) (h : List ℕ) → q ≡ mapPlace x + MapData + p → Lies fromRecords p h → Lies (laid x check covers ++ rest) q h
   after-map p q h e lies =
       after-header (MapData + p) q h (omega arith)
       (lies-after (mapBlock x) fromRecords h p (MapData + p) (omega (arith, map-length (mapLength x) (x .map))) lies)
@@ -49,13 +49,13 @@ module _ (x : Parts) (check covers : ℕ) (rest : List ℕ) where
   header-lies =
       subst (λ (s : List ℕ). Lies s 0 (headerBlock x check covers)) blocks (lies-front (headerBlock x check covers) fromMap)
 
-  pub map-lies : Lies (laid x check covers ++ rest) mapPlace (mapBlock x)
-  map-lies = after-header 0 mapPlace (mapBlock x) (omega arith) (lies-front (mapBlock x) fromRecords)
+  pub map-lies : Lies (laid x check covers ++ rest) (mapPlace x) (mapBlock x)
+  map-lies = after-header 0 (mapPlace x) (mapBlock x) (omega arith) (lies-front (mapBlock x) fromRecords)
 
-  pub record-lies : (k : ℕ) → k < recordCount x → Lies (laid x check covers ++ rest) (recordPlace k) (recordBlock x k)
+  pub record-lies : (k : ℕ) → k < recordCount x → Lies (laid x check covers ++ rest) (recordPlace x k) (recordBlock x k)
   unfolding laidRecords
   record-lies k h =
-      after-map (k * mapRecordSize) (recordPlace k) (recordBlock x k) (omega arith)
+      after-map (k * mapRecordSize) (recordPlace x k) (recordBlock x k) (omega arith)
       (lies-piece (recordBlock x) mapRecordSize (recordCount x) k fromBoard
       (record-length (x .records) (x .map .blklength)) h)
 

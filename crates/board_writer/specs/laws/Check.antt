@@ -7,9 +7,11 @@ use mathlib.Core.Path.{_≡_, refl, sym, ap, ap₂, _∙_}
 use native.Mathlib.Omega.{arith}
 use lib.ListN.{length, take, length-take, List·getD-append}
 use lib.Seq.{getD-take, getD-append-add}
+use Rattle.board_layout.specs.Layout.{headerLength}
 use Rattle.board_layout.specs.Places.{Crc32, CrcLength}
+use Rattle.board_layout.specs.laws.Layout.{header-size}
 use Rattle.board_rules.specs.Judged.{judged}
-use Rattle.board_rules.specs.Rules.{headerLength, covered, checkOver}
+use Rattle.board_rules.specs.Rules.{covered, checkOver}
 use Rattle.board_rules.specs.laws.Accepted.{check-holds}
 use Rattle.board_writer.specs.Image.{zeros, head, imageLength, body, laid, crcLength, check, image}
 use Rattle.board_writer.specs.Parts.{Parts}
@@ -22,6 +24,7 @@ use Rattle.kinds.specs.Signatures.{eeprom}
 use Rattle.kinds.specs.declared.Kinds.{Kinds}
 use Rattle.octets.specs.Bytes.{byte, spelled, le32}
 use Rattle.octets.specs.laws.Bytes.{byte-past}
+use Rattle.octets.specs.laws.Spelled.{little-spelled}
 use Rattle.verdict.specs.declared.Judged.the-variants.{Accepted}
 
 -- ---- two lists that differ in a middle part only
@@ -51,10 +54,10 @@ taken n s t q e d =
 module _ (x : Parts) where
   -- what the image has before the check fields, and after them
   abbrev front : List ℕ
-  front = head eeprom headerLength ++ spelled 4 (imageLength x)
+  front = head eeprom (headerLength (x .header)) ++ spelled 4 (imageLength x)
 
   abbrev back : List ℕ
-  back = spelled 4 (x .version) ++ zeros 16 ++ body x
+  back = spelled 4 (x .version) ++ zeros (headerLength (x .header) - 0x20) ++ body x
 
   -- how much the check covers is not read from them
   pub covered-laid : (c l : ℕ) → crcLength x ≡ covered (laid x c l)
@@ -62,7 +65,10 @@ module _ (x : Parts) where
   covered-laid c l =
       let none : List ℕ = spelled 4 0 ++ spelled 4 0 in
       let some : List ℕ = spelled 4 c ++ spelled 4 l in
-      covered-same (laid x 0 0) (laid x c l) (λ q _ h. before front none some back back q h) (behind front none some back refl) (omega arith)
+      let h = header-size (x .header) in
+      let size = little-spelled 4 (headerLength (x .header)) (omega (arith, h .1)) in
+      covered-same (laid x 0 0) (laid x c l) (λ q _ h. before front none some back back q h) (behind front none some back refl)
+      (omega (arith, size, h .0))
 
   -- nor is the check read from Crc32
   pub check-laid : (c l n : ℕ) → checkOver (laid x 0 l) n ≡ checkOver (laid x c l) n

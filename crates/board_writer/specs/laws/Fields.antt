@@ -13,7 +13,7 @@ use Rattle.board_writer.specs.Image.{laidRecord, imageLength, laid, mapP
 use Rattle.board_writer.specs.Parts.{Parts, Fits, recordCount}
 use Rattle.board_writer.specs.Shown.{mapShown, recordShown}
 use Rattle.board_writer.specs.laws.Blocks.{header-lies, map-lies, record-lies, board-lies, further-lies}
-use Rattle.board_writer.specs.laws.Length.{headerBlock, mapBlock, recordBlock, boardBlock}
+use Rattle.board_writer.specs.laws.Length.{headerBlock, mapBlock, recordBlock, boardBlock, header-long}
 use Rattle.octets.specs.laws.Lies.{Lies, lies-run, le16-in, le32-in, sixteen-in}
 use Rattle.board_writer.specs.laws.Places.{map-head}
 use Rattle.chain.specs.Fill.{tab}
@@ -28,35 +28,35 @@ module _ (x : Parts) (check covers : ℕ) (rest : List ℕ) where
   -- the four bytes of the header's field Crc32, CrcLength or Version
   pub check-read : check < 0x1_0000_0000 → le32 s Crc32 ≡ check
   unfolding spelled le32 tab
-  check-read h = le32-in s 0 (headerBlock x check covers) (header-lies x check covers rest) Crc32 (omega arith) ∙ little-spelled 4 check h
+  check-read h = le32-in s 0 (headerBlock x check covers) (header-lies x check covers rest) Crc32 (omega (arith, header-long x check covers)) ∙ little-spelled 4 check h
 
   pub covers-read : covers < 0x1_0000_0000 → le32 s CrcLength ≡ covers
   unfolding spelled le32 tab
-  covers-read h = le32-in s 0 (headerBlock x check covers) (header-lies x check covers rest) CrcLength (omega arith) ∙ little-spelled 4 covers h
+  covers-read h = le32-in s 0 (headerBlock x check covers) (header-lies x check covers rest) CrcLength (omega (arith, header-long x check covers)) ∙ little-spelled 4 covers h
 
   pub version-read : Fits x → le32 s Version ≡ x .version
   unfolding spelled le32 tab
   version-read fits =
-      le32-in s 0 (headerBlock x check covers) (header-lies x check covers rest) Version (omega arith) ∙ little-spelled 4 (x .version) (fits .version)
+      le32-in s 0 (headerBlock x check covers) (header-lies x check covers rest) Version (omega (arith, header-long x check covers)) ∙ little-spelled 4 (x .version) (fits .version)
 
   -- where the records lie
-  rest-read : imageLength x < 0x1_0000_0000 → restAt s mapPlace MapData ≡ record { place = mapPlace + MapData; length = mapRecordSize * recordCount x }
+  rest-read : imageLength x < 0x1_0000_0000 → restAt s (mapPlace x) MapData ≡ record { place = mapPlace x + MapData; length = mapRecordSize * recordCount x }
   unfolding restAt
   rest-read small =
-      let e : lengthAt s mapPlace - MapData ≡ mapRecordSize * recordCount x = omega (arith, map-head x check covers rest small .length) in
-      ap (λ (n : ℕ). record { place = mapPlace + MapData; length = n }) e
+      let e : lengthAt s (mapPlace x) - MapData ≡ mapRecordSize * recordCount x = omega (arith, map-head x check covers rest small .length) in
+      ap (λ (n : ℕ). record { place = mapPlace x + MapData; length = n }) e
 
   -- the map, up to its records
-  pub map-read : imageLength x < 0x1_0000_0000 → Fits x → eeprMapAt s mapPlace ≡ mapShown x
+  pub map-read : imageLength x < 0x1_0000_0000 → Fits x → eeprMapAt s (mapPlace x) ≡ mapShown x
   unfolding eeprMapAt sixteenAt spelled le16 le32 tab
   map-read small fits i =
       let map : List ℕ = mapBlock x in
-      let lies : Lies s mapPlace map = map-lies x check covers rest in
+      let lies : Lies s (mapPlace x) map = map-lies x check covers rest in
       record {
-        partlabel = sixteen-in s mapPlace map lies PartLabel (omega arith) i;
-        blklength = (le32-in s mapPlace map lies BlkLength (omega arith) ∙ little-spelled 4 (x .map .blklength) (fits .blkLength)) i;
-        pagesize = (le16-in s mapPlace map lies PageSize (omega arith) ∙ little-spelled 2 (x .map .pagesize) (fits .pageSize)) i;
-        partsize = (le32-in s mapPlace map lies PartSize (omega arith) ∙ little-spelled 4 (x .map .partsize) (fits .partSize)) i;
+        partlabel = sixteen-in s (mapPlace x) map lies PartLabel (omega arith) i;
+        blklength = (le32-in s (mapPlace x) map lies BlkLength (omega arith) ∙ little-spelled 4 (x .map .blklength) (fits .blkLength)) i;
+        pagesize = (le16-in s (mapPlace x) map lies PageSize (omega arith) ∙ little-spelled 2 (x .map .pagesize) (fits .pageSize)) i;
+        partsize = (le32-in s (mapPlace x) map lies PartSize (omega arith) ∙ little-spelled 4 (x .map .partsize) (fits .partSize)) i;
         busnumber = lies BusNumber (omega arith) i;
         master = lies Master (omega arith) i;
         speed = lies Speed (omega arith) i;
@@ -64,10 +64,10 @@ module _ (x : Parts) (check covers : ℕ) (rest : List ℕ) where
       }
 
   -- a record whose Offset fits its field
-  pub record-read : (k : ℕ) → k < recordCount x → k * x .map .blklength < 0x1_0000_0000 → mapRecordAt s (recordPlace k) ≡ recordShown x k
+  pub record-read : (k : ℕ) → k < recordCount x → k * x .map .blklength < 0x1_0000_0000 → mapRecordAt s (recordPlace x k) ≡ recordShown x k
   unfolding mapRecordAt laidRecord sixteenAt spelled le32 tab
   record-read k h offset i =
-      let r : ℕ = recordPlace k in
+      let r : ℕ = recordPlace x k in
       let one : List ℕ = recordBlock x k in
       let lies : Lies s r one = record-lies x check covers rest k h in
       record {

@@ -1,13 +1,15 @@
 -- The header, the map's fields, a map record and the board, laid of what is read of them, are the runs of their bytes, where the head is of version 1.0 and the
 -- reserved bytes are zero. Field by field, in the order of the definitions. Assumes nothing.
-use Prim.Native.Nat.{ℕ, _+_, _≤_, _<_}
+use Prim.Native.Nat.{ℕ, _+_, _-_, _≤_, _<_}
 use mathlib.Core.List.{List}
 use mathlib.Core.Path.{_≡_, refl, ap, _∙_}
 use native.Mathlib.Nat.{add-zero}
+use native.Mathlib.Omega.{arith}
 use Rattle.board.specs.Items.{eepromAt, eeprMapAt, brdInfoAt}
-use Rattle.board_layout.specs.Layout.{structLen}
+use Rattle.board_layout.specs.Layout.{structLen, headerLength}
 use Rattle.board_layout.specs.Places.{VerMajor, VerMinor, Length, StructLen, Crc32, CrcLength, Version, ManuName, BrdName, BrdSerial, BoardId, FabId, EcId, BoardType, PartLabel, BlkLength, PageSize, PartSize, BusNumber, Master, Speed, MapLabel, MapLength, MapOffset, Address, mapRecordSize}
-use Rattle.board_rules.specs.Rules.{headerLength}
+use Rattle.board_layout.specs.declared.Header.{Header}
+use Rattle.board_layout.specs.laws.Layout.{header-size}
 use Rattle.board_writer.specs.Image.{head, headerOf, mapOf, recordOf, boardOf}
 use Rattle.board_writer.specs.PartsOf.{mapGiven}
 use Rattle.board_writer.specs.laws.Places.{Head}
@@ -78,12 +80,15 @@ module _ (s : List ℕ) (octets : Octets s) (p : ℕ) where
       (beside s p BoardType 1 19 (one-run s p BoardType) (zeros-run s p 0x4D 19 zero)))))))))
 
 -- ---- the header, with the check fields that it has
-pub header-run : (s : List ℕ) (octets : Octets s) → Head s 0 eeprom headerLength → Zero s 0 0x20 0x30
-    → headerOf (structLen s) (le32 s Crc32) (le32 s CrcLength) (eepromAt s 0 .version) ≡ run s 0 0x30
+pub header-run : (s : List ℕ) (octets : Octets s) (h : Header) → Head s 0 eeprom (headerLength h) → Zero s 0 0x20 (headerLength h)
+    → headerOf h (structLen s) (le32 s Crc32) (le32 s CrcLength) (eepromAt s 0 .version) ≡ run s 0 (headerLength h)
 unfolding eepromAt spelled
-header-run s octets h zero =
-    beside s 0 0 16 32 (head-run s octets 0 eeprom headerLength h)
-    (beside s 0 StructLen 4 28 (four-at s octets 0 StructLen)
-    (beside s 0 Crc32 4 24 (four-at s octets 0 Crc32)
-    (beside s 0 CrcLength 4 20 (four-at s octets 0 CrcLength)
-    (beside s 0 Version 4 16 (four-at s octets 0 Version) (zeros-run s 0 0x20 16 zero)))))
+header-run s octets h head zero =
+    let n : ℕ = headerLength h - 0x20 in
+    let reserved = zeros-run s 0 0x20 n (λ i a b. zero i a (omega (arith, header-size h .0))) in
+    beside s 0 0 16 (4 + (4 + (4 + (4 + n)))) (head-run s octets 0 eeprom (headerLength h) head)
+    (beside s 0 StructLen 4 (4 + (4 + (4 + n))) (four-at s octets 0 StructLen)
+    (beside s 0 Crc32 4 (4 + (4 + n)) (four-at s octets 0 Crc32)
+    (beside s 0 CrcLength 4 (4 + n) (four-at s octets 0 CrcLength)
+    (beside s 0 Version 4 n (four-at s octets 0 Version) reserved))))
+    ∙ ap (run s 0) (omega (arith, header-size h .0))

@@ -10,7 +10,7 @@ use Rattle.board_layout.specs.Places.{headSize}
 use Rattle.board_layout.specs.laws.Same.{struct-len-same, head-same}
 use Rattle.board_rules.specs.Judged.{judged}
 use Rattle.board_rules.specs.Rules.{promSigAt}
-use Rattle.board_rules.specs.laws.Accepted.{struct-len-within, structures-fit}
+use Rattle.board_rules.specs.laws.Accepted.{struct-len-within, struct-len-least, structures-fit}
 use Rattle.board_rules.specs.laws.Front.{same-accepted}
 use Rattle.board_rules.specs.laws.Walk.{Fits}
 use Rattle.board_writer.specs.laws.Covered.{prom-sig-agree}
@@ -20,16 +20,16 @@ use Rattle.octets.specs.laws.Same.{Same}
 use Rattle.verdict.specs.declared.Judged.the-variants.{Accepted}
 
 module _ (k : Kinds) (s t : List ℕ) (count : ℕ) (e : judged k s ≡ Accepted count) (same : Same s t 0 (structLen s)) where
-  -- StructLen is within the image
-  within : (0x30 ≤ structLen s) × (structLen s ≤ length s)
-  within = struct-len-within k s count e
+  -- StructLen is at least 20h
+  least : 0x20 ≤ structLen s
+  least = struct-len-least k s count e
 
   -- the other has the same `$PromSig`
   pub same-signed : promSigAt t ≡ promSigAt s
   same-signed =
       sym
-      (prom-sig-agree s t (struct-len-same s t (within .0) same)
-      (all-map (Fits s) (λ p. Same s t p (p + headSize)) (λ p f. head-same s t (within .0) same p (f .room)) (structures s) (structures-fit k s count e)))
+      (prom-sig-agree s t (struct-len-same s t least same)
+      (all-map (Fits s) (λ p. Same s t p (p + headSize)) (λ p f. head-same s t least same p (f .room)) (structures s) (structures-fit k s count e)))
 
 -- ---- with other bytes after it
 module _ (k : Kinds) (s rest : List ℕ) (count : ℕ) (e : judged k s ≡ Accepted count) where

@@ -2,18 +2,19 @@
 -- of their bytes, and these lie end to end. Assumes nothing.
 use Prim.Native.Nat.{ℕ, _+_, _-_, _*_, _≤_}
 use mathlib.Core.List.{List}
-use mathlib.Core.Path.{_≡_, refl, ap, ap₂, _∙_}
+use mathlib.Core.Path.{_≡_, refl, sym, ap, ap₂, _∙_}
 use native.Mathlib.Omega.{arith}
 use lib.ListN.{take}
 use Rattle.board.specs.Items.{eepromAt, eeprMapAt}
-use Rattle.board_layout.specs.Layout.{lengthAt, structLen, endAt, mapAt, boardAt, mapCount}
+use Rattle.board_layout.specs.Layout.{lengthAt, structLen, endAt, headerLength, mapAt, boardAt, mapCount}
 use Rattle.board_layout.specs.Places.{Crc32, CrcLength, BlkLength, MapData, mapRecordSize}
+use Rattle.board_layout.specs.declared.Header.{Header}
 use Rattle.board_rules.specs.Judged.{judged}
-use Rattle.board_rules.specs.Rules.{headerLength}
 use Rattle.board_rules.specs.laws.Accepted.{struct-len-within, header-is, map-place, map-second, board-third, three-fit, map-head, board-head, board-place, board-ends}
 use Rattle.board_writer.specs.Image.{headerOf, mapOf, laidRecords, boardOf, mapLength, imageLength, body, laid}
 use Rattle.board_writer.specs.Parts.{recordCount}
-use Rattle.board_writer.specs.PartsOf.{mapGiven, recordsOf, partsOf, Rebuildable}
+use Rattle.board_writer.specs.PartsOf.{headerWith, mapGiven, recordsOf, partsOf, Rebuildable}
+use Rattle.board_writer.specs.laws.Back.{header-with}
 use Rattle.board_writer.specs.laws.Fixed.{header-run, map-run, board-run}
 use Rattle.board_writer.specs.laws.Read.{joined}
 use Rattle.board_writer.specs.laws.Records.{records-length, laid-records}
@@ -29,8 +30,18 @@ module _ (s : List ℕ) (n : ℕ) (e : judged full s ≡ Accepted n) where
   map-length : lengthAt s (mapAt s) ≡ MapData + mapCount s (mapAt s) * mapRecordSize
   map-length = map-head full s n e .1
 
-  map-start : mapAt s ≡ headerLength
-  map-start = map-place full s n e ∙ header-is full s n e .2
+  -- the header that is read, and so where the map starts
+  abbrev header : Header
+  header = partsOf s .header
+
+  header-read : lengthAt s 0 ≡ headerLength header
+  unfolding partsOf
+  header-read =
+      let h = header-is full s n e .2 in
+      h .1 ∙ sym (ap (λ (l : ℕ). headerLength (headerWith l)) (h .1) ∙ ap headerLength (header-with (h .0)))
+
+  map-start : mapAt s ≡ headerLength header
+  map-start = map-place full s n e ∙ header-read
 
   board-start : boardAt s ≡ mapAt s + (MapData + mapCount s (mapAt s) * mapRecordSize)
   unfolding endAt
@@ -52,12 +63,13 @@ module _ (s : List ℕ) (n : ℕ) (e : judged full s ≡ Accepted n) where
 
   module _ (r : Rebuildable s) (octets : Octets s) where
     -- ---- each part that is laid is the run of its bytes
-    header-parts : headerOf (imageLength (partsOf s)) (le32 s Crc32) (le32 s CrcLength) (partsOf s .version) ≡ run s 0 headerLength
+    header-parts : headerOf header (imageLength (partsOf s)) (le32 s Crc32) (le32 s CrcLength) (partsOf s .version) ≡ run s 0 (headerLength header)
     unfolding partsOf
     header-parts =
         let h = header-is full s n e in
-        ap (λ (k : ℕ). headerOf k (le32 s Crc32) (le32 s CrcLength) (eepromAt s 0 .version)) length-parts
-        ∙ header-run s octets (record { signature = h .0; major = h .1; minor = r .header; length = h .2 }) (header-zero s n e r)
+        ap (λ (k : ℕ). headerOf header k (le32 s Crc32) (le32 s CrcLength) (eepromAt s 0 .version)) length-parts
+        ∙ header-run s octets header (record { signature = h .0; major = h .1; minor = r .header; length = header-read })
+        (λ i a b. header-zero s n e r i a (omega (arith, header-read)))
 
     map-parts : mapOf (mapLength (partsOf s)) (partsOf s .map) ≡ run s (mapAt s) MapData
     unfolding partsOf
@@ -80,12 +92,12 @@ module _ (s : List ℕ) (n : ℕ) (e : judged full s ≡ Accepted n) where
         (board-zero s n e r)
 
     -- ---- and they lie end to end
-    body-parts : body (partsOf s) ≡ run s headerLength (structLen s - headerLength)
+    body-parts : body (partsOf s) ≡ run s (headerLength header) (structLen s - headerLength header)
     unfolding body partsOf
     body-parts =
         let count : ℕ = mapCount s (mapAt s) in
         let end : ℕ = endAt s (boardAt s) in
-        let k : MapData + count * mapRecordSize + 0x60 + (structLen s - end) ≡ structLen s - headerLength =
+        let k : MapData + count * mapRecordSize + 0x60 + (structLen s - end) ≡ structLen s - headerLength header =
         omega (arith, map-start, board-start, board-end .0, board-end .1) in
         joined s (mapAt s) (MapData + count * mapRecordSize + 0x60) end (structLen s - end) (omega (arith, board-start, board-end .0))
         (joined s (mapAt s) (MapData + count * mapRecordSize) (boardAt s) 0x60 board-start
@@ -98,6 +110,6 @@ module _ (s : List ℕ) (n : ℕ) (e : judged full s ≡ Accepted n) where
     unfolding laid
     laid-parts =
         let w = struct-len-within full s n e in
-        let k : headerLength + (structLen s - headerLength) ≡ structLen s = omega (arith, w .0) in
-        joined s 0 headerLength headerLength (structLen s - headerLength) refl header-parts body-parts
+        let k : headerLength header + (structLen s - headerLength header) ≡ structLen s = omega (arith, w .0, header-read) in
+        joined s 0 (headerLength header) (headerLength header) (structLen s - headerLength header) (omega arith) header-parts body-parts
         ∙ ap (run s 0) k ∙ run-part s 0 (structLen s) (omega (arith, w .1))

@@ -1,14 +1,19 @@
 -- What the writer can refuse with: of the reader's rules all but 20, 21, 22 and 27, since length, header, StructLen and check fields of the image are the
 -- writer's own work. Assumes nothing.
 use Prim.Native.Nat.{ℕ, _≤_}
+use mathlib.Core.Bool.{true}
 use mathlib.Core.List.{List, [], _∷_, append-nil, List·Memᴰ}
 use mathlib.Core.Path.{_≡_, refl, sym, ap, subst, _∙_}
 use native.Mathlib.Omega.{arith}
 use lib.ListN.{length}
 use borrow.Author.Tests.{le-ltb, eq-eqb}
-use Rattle.board_layout.specs.Layout.{signatureAt, majorAt, lengthAt, structLen, structures}
+use Rattle.board_layout.specs.Layout.{signatureAt, majorAt, lengthAt, structLen, structures, headerLength}
+use Rattle.board_layout.specs.declared.Header.{Header}
+use Rattle.board_layout.specs.declared.Header.the-variants.{Short}
+use Rattle.board_layout.specs.laws.Layout.{header-size}
 use Rattle.board_rules.specs.Judged.{rules, judged}
-use Rattle.board_rules.specs.Rules.{headerLength, promSigAt, rule20, rule21, rule22, rule23, rule24, rule25, rule26, rule27, rule28, rule29, rule30, rule31, rule32, rule33, rule34}
+use Rattle.board_rules.specs.Rules.{isHeaderLength, promSigAt, rule20, rule21, rule22, rule23, rule24, rule25, rule26, rule27, rule28, rule29, rule30, rule31, rule32, rule33, rule34}
+use Rattle.board_rules.specs.laws.Heads.{header-good}
 use Rattle.board_writer.specs.Image.{imageLength, body, laid, crcLength, check, image}
 use Rattle.board_writer.specs.Parts.{Parts, OfBytes}
 use Rattle.board_writer.specs.Written.{writerRules, unsigned, reviewed, checked, written}
@@ -37,29 +42,30 @@ pub record WellFormed (s : List ℕ) : Type 0 where
 
 -- ---- the image that is made breaks none of them
 -- what rule 20 asks of the length
-length-holds : (s : List ℕ) → headerLength ≤ length s → length s ≤ 65536 → rule20 s ≡ Nothing
+length-holds : (s : List ℕ) → headerLength Short ≤ length s → length s ≤ 65536 → rule20 s ≡ Nothing
 unfolding rule20
-length-holds s least most = rw (le-ltb (length s) headerLength least, le-ltb 65536 (length s) most)
+length-holds s least most = rw (le-ltb (length s) (headerLength Short) least, le-ltb 65536 (length s) most)
 
 -- what rule 21 asks of the header
-header-holds : (s : List ℕ) → Head s 0 eeprom headerLength → rule21 s ≡ Nothing
+header-holds : (s : List ℕ) (h : Header) → Head s 0 eeprom (headerLength h) → rule21 s ≡ Nothing
 unfolding rule21
-header-holds s h =
-    rw (eq-eqb (signatureAt s 0) eeprom (h .signature), eq-eqb (majorAt s 0) 1 (h .major), eq-eqb (lengthAt s 0) headerLength (h .length))
+header-holds s h head =
+    let good : isHeaderLength (lengthAt s 0) ≡ true = ap isHeaderLength (head .length) ∙ header-good h in
+    rw (eq-eqb (signatureAt s 0) eeprom (head .signature), eq-eqb (majorAt s 0) 1 (head .major), good)
 
 -- what rule 22 asks of StructLen
-struct-len-holds : (s : List ℕ) → headerLength ≤ structLen s → structLen s ≤ length s → rule22 s ≡ Nothing
+struct-len-holds : (s : List ℕ) → lengthAt s 0 ≤ structLen s → structLen s ≤ length s → rule22 s ≡ Nothing
 unfolding rule22
-struct-len-holds s least most = rw (le-ltb (structLen s) headerLength least, le-ltb (length s) (structLen s) most)
+struct-len-holds s least most = rw (le-ltb (structLen s) (lengthAt s 0) least, le-ltb (length s) (structLen s) most)
 
 module _ (x : Parts) (most : imageLength x ≤ 65536) where
   -- the header of the image, and its StructLen
-  image-head : Head (image x) 0 eeprom headerLength
+  image-head : Head (image x) 0 eeprom (headerLength (x .header))
   unfolding image
   image-head =
       let c : ℕ = check x in
       let n : ℕ = crcLength x in
-      subst (λ (s : List ℕ). Head s 0 eeprom headerLength) (append-nil (laid x c n)) (header-head x c n [] (omega arith))
+      subst (λ (s : List ℕ). Head s 0 eeprom (headerLength (x .header))) (append-nil (laid x c n)) (header-head x c n [] (omega arith))
 
   image-struct-len : structLen (image x) ≡ imageLength x
   unfolding image
@@ -72,9 +78,9 @@ module _ (x : Parts) (most : imageLength x ≤ 65536) where
 pub image-well-formed : (x : Parts) → imageLength x ≤ 65536 → Octets (body x) → WellFormed (image x)
 image-well-formed x most octets =
     record {
-      twenty = length-holds (image x) (omega (arith, image-length x)) (omega (arith, image-length x));
-      twentyOne = header-holds (image x) (image-head x most);
-      twentyTwo = struct-len-holds (image x) (omega (arith, image-struct-len x most)) (omega (arith, image-struct-len x most, image-length x));
+      twenty = length-holds (image x) (omega (arith, image-length x, header-size (x .header) .0)) (omega (arith, image-length x));
+      twentyOne = header-holds (image x) (x .header) (image-head x most);
+      twentyTwo = struct-len-holds (image x) (omega (arith, image-struct-len x most, image-head x most .length)) (omega (arith, image-struct-len x most, image-length x));
       twentySeven = check-fields-hold x most octets;
     }
 

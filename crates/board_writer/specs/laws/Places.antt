@@ -6,15 +6,14 @@ use mathlib.Core.Path.{_≡_, refl, sym, ap, _∙_}
 use native.Mathlib.Nat.{add-zero}
 use native.Mathlib.Omega.{arith}
 use lib.ListN.{length}
-use Rattle.board_layout.specs.Layout.{signatureAt, majorAt, minorAt, lengthAt, structLen, endAt, round16, next, mapAt, boardAt, laterAt, records}
+use Rattle.board_layout.specs.Layout.{signatureAt, majorAt, minorAt, lengthAt, structLen, endAt, round16, next, headerLength, mapAt, boardAt, laterAt, records}
 use Rattle.board_layout.specs.Places.{VerMajor, VerMinor, Length, headSize, StructLen}
 use Rattle.board_layout.specs.declared.Records.the-variants.{Map}
-use Rattle.board_layout.specs.laws.Layout.{next-round, round-same}
-use Rattle.board_rules.specs.Rules.{headerLength}
+use Rattle.board_layout.specs.laws.Layout.{next-round, round-same, header-size}
 use Rattle.board_writer.specs.Image.{mapLength, imageLength, laid, boardLength, mapPlace, recordPlace, boardPlace, furtherPlace}
 use Rattle.board_writer.specs.Parts.{Parts, recordCount}
 use Rattle.board_writer.specs.laws.Blocks.{header-lies, map-lies, board-lies}
-use Rattle.board_writer.specs.laws.Length.{headerBlock, mapBlock, boardBlock}
+use Rattle.board_writer.specs.laws.Length.{headerBlock, mapBlock, boardBlock, header-long}
 use Rattle.octets.specs.laws.Lies.{Lies, le16-in, le32-in, le64-in}
 use Rattle.board_writer.specs.laws.MapRecords.{record-places}
 use Rattle.chain.specs.Fill.{tab}
@@ -50,16 +49,17 @@ module _ (x : Parts) (check covers : ℕ) (rest : List ℕ) (small : imageLength
   s = laid x check covers ++ rest
 
   -- ---- the heads
-  pub header-head : Head s 0 eeprom headerLength
+  pub header-head : Head s 0 eeprom (headerLength (x .header))
   unfolding spelled le16 le32 le64 tab
   header-head =
-      head-in s 0 (headerBlock x check covers) eeprom headerLength (header-lies x check covers rest) (omega arith)
-      (record { signature = refl; major = refl; minor = refl; length = refl })
+      let h = header-size (x .header) in
+      head-in s 0 (headerBlock x check covers) eeprom (headerLength (x .header)) (header-lies x check covers rest) (omega (arith, header-long x check covers))
+      (record { signature = refl; major = refl; minor = refl; length = little-spelled 4 (headerLength (x .header)) (omega (arith, h .1)) })
 
-  pub map-head : Head s mapPlace eeprMap (mapLength x)
+  pub map-head : Head s (mapPlace x) eeprMap (mapLength x)
   unfolding spelled le16 le32 le64 tab
   map-head =
-      head-in s mapPlace (mapBlock x) eeprMap (mapLength x) (map-lies x check covers rest) (omega arith)
+      head-in s (mapPlace x) (mapBlock x) eeprMap (mapLength x) (map-lies x check covers rest) (omega arith)
       (record { signature = refl; major = refl; minor = refl; length = little-spelled 4 (mapLength x) (omega arith) })
 
   pub board-head : Head s (boardPlace x) brdInfo boardLength
@@ -72,16 +72,18 @@ module _ (x : Parts) (check covers : ℕ) (rest : List ℕ) (small : imageLength
   pub struct-len-is : structLen s ≡ imageLength x
   unfolding spelled le32 tab
   struct-len-is =
-      le32-in s 0 (headerBlock x check covers) (header-lies x check covers rest) StructLen (omega arith)
+      le32-in s 0 (headerBlock x check covers) (header-lies x check covers rest) StructLen (omega (arith, header-long x check covers))
       ∙ little-spelled 4 (imageLength x) (omega arith)
 
-  pub map-at : mapAt s ≡ mapPlace
+  pub map-at : mapAt s ≡ mapPlace x
   unfolding mapAt
-  map-at = next-is s 0 headerLength (header-head .length) (omega arith) (omega arith)
+  map-at =
+      let h = header-size (x .header) in
+      next-is s 0 (headerLength (x .header)) (header-head .length) (omega (arith, h .0)) (omega (arith, h .2)) ∙ omega arith
 
   pub board-at : boardAt s ≡ boardPlace x
   unfolding boardAt
-  board-at = ap (next s) map-at ∙ next-is s mapPlace (mapLength x) (map-head .length) (omega arith) (omega arith)
+  board-at = ap (next s) map-at ∙ next-is s (mapPlace x) (mapLength x) (map-head .length) (omega arith) (omega (arith, header-size (x .header) .2))
 
   pub board-end : endAt s (boardAt s) ≡ furtherPlace x
   unfolding endAt
@@ -91,8 +93,8 @@ module _ (x : Parts) (check covers : ℕ) (rest : List ℕ) (small : imageLength
   pub later-at : laterAt s ≡ furtherPlace x
   unfolding laterAt
   later-at =
-      ap (next s) board-at ∙ next-is s (boardPlace x) boardLength (board-head .length) (omega arith) (omega arith) ∙ omega arith
+      ap (next s) board-at ∙ next-is s (boardPlace x) boardLength (board-head .length) (omega arith) (omega (arith, header-size (x .header) .2)) ∙ omega arith
 
-  -- record k of the map starts at 60h + 20h k
-  pub records-at : records Map s (mapAt s) ≡ tab recordPlace (recordCount x)
-  records-at = ap (records Map s) map-at ∙ record-places s mapPlace (recordCount x) (omega (arith, map-head .length))
+  -- record k of the map starts 30h + 20h k past the map's start
+  pub records-at : records Map s (mapAt s) ≡ tab (recordPlace x) (recordCount x)
+  records-at = ap (records Map s) map-at ∙ record-places s (mapPlace x) (recordCount x) (omega (arith, map-head .length))

@@ -9,8 +9,9 @@ use Rattle.board.specs.Answers.{beyond, itemNumbered, mapRecordNumbered}
 use Rattle.board.specs.declared.Fields.{Fields}
 use Rattle.board.specs.declared.ItemAnswer.{ItemAnswer}
 use Rattle.board.specs.declared.MapRecordAnswer.{MapRecordAnswer}
+use Rattle.board_layout.specs.Layout.{headerLength}
 use Rattle.board_rules.specs.Judged.{judged}
-use Rattle.board_rules.specs.Rules.{promSigAt, headerLength}
+use Rattle.board_rules.specs.Rules.{promSigAt}
 use Rattle.board_rules.specs.laws.Shorter.{shorter-accepts}
 use Rattle.board_writer.specs.Image.{mapLength, imageLength, crcLength, check, image, boardLength, mapPlace, boardPlace, furtherPlace}
 use Rattle.board_writer.specs.Parts.{Parts, Fits, recordCount}
@@ -31,8 +32,8 @@ use Rattle.verdict.specs.declared.Judged.the-variants.{Accepted}
 
 -- what a reader answers over an image of these parts
 pub record Answers (x : Parts) (k : Kinds) (s : List ℕ) : Type 0 where
-  pub header : itemNumbered k s 0 ≡ ItemAnswer.Shown (itemShown eeprom 0 headerLength (Fields.Eeprom (headerShown x)))
-  pub map : itemNumbered k s 1 ≡ ItemAnswer.Shown (itemShown eeprMap mapPlace (mapLength x) (Fields.EeprMap (mapShown x)))
+  pub header : itemNumbered k s 0 ≡ ItemAnswer.Shown (itemShown eeprom 0 (headerLength (x .header)) (Fields.Eeprom (headerShown x)))
+  pub map : itemNumbered k s 1 ≡ ItemAnswer.Shown (itemShown eeprMap (mapPlace x) (mapLength x) (Fields.EeprMap (mapShown x)))
   pub board : itemNumbered k s 2 ≡ ItemAnswer.Shown (itemShown brdInfo (boardPlace x) boardLength (Fields.BrdInfo (x .board)))
   pub records : (i : ℕ) → i < recordCount x → mapRecordNumbered k s i ≡ MapRecordAnswer.Shown (recordShown x i)
   pub past : (i : ℕ) → recordCount x ≤ i → mapRecordNumbered k s i ≡ MapRecordAnswer.Refused beyond

@@ -11,7 +11,7 @@ use Rattle.board_layout.specs.Places.{Crc32, CrcLength}
 use Rattle.board_rules.specs.Judged.{judged}
 use Rattle.board_rules.specs.Rules.{promSigAt}
 use Rattle.board_rules.specs.laws.Front.{front-accepted}
-use Rattle.board_rules.specs.laws.Accepted.{lent-within, struct-len-within}
+use Rattle.board_rules.specs.laws.Accepted.{lent-within, struct-len-within, struct-len-least}
 use Rattle.board_writer.specs.Image.{image}
 use Rattle.board_writer.specs.Parts.{rule46}
 use Rattle.board_writer.specs.PartsOf.{partsOf, Rebuildable}
@@ -35,8 +35,8 @@ module _ (s : List ℕ) (n : ℕ) (e : judged full s ≡ Accepted n) (r : Rebuil
   front = take (structLen s) s
 
   -- StructLen is within what is lent
-  within : (0x30 ≤ structLen s) × (structLen s ≤ length s)
-  within = struct-len-within full s n e
+  within : (0x20 ≤ structLen s) × (structLen s ≤ length s)
+  within = (struct-len-least full s n e, struct-len-within full s n e .1)
 
   most : structLen s ≤ 65536
   most = omega (arith, within .1, lent-within full s n e .1)
@@ -59,7 +59,7 @@ module _ (s : List ℕ) (n : ℕ) (e : judged full s ≡ Accepted n) (r : Rebuil
     pub image-parts : image (partsOf s) ≡ take (structLen s) s
     image-parts =
         let laid = laid-parts s n e r octets in
-        let field : (p : ℕ) → p + 4 ≤ 0x30 → le32 front p ≡ le32 s p =
+        let field : (p : ℕ) → p + 4 ≤ 0x20 → le32 front p ≡ le32 s p =
         λ p h. sym (le32-same s front 0 (structLen s) same p (omega arith) (omega (arith, within .0))) in
         image-accepted (partsOf s) full (le32 s Crc32) (le32 s CrcLength) n (ap (judged full) laid ∙ accepted)
         (ap (λ (t : List ℕ). le32 t Crc32) laid ∙ field Crc32 (omega arith)) (ap (λ (t : List ℕ). le32 t CrcLength) laid ∙ field CrcLength (omega arith))

@@ -3,6 +3,7 @@
 use Prim.Native.Nat.{ℕ, _+_, _*_, _≤_, _<_}
 use mathlib.Core.Bool.{true}
 use mathlib.Core.List.{List}
+use mathlib.Core.Logic.{inl, inr}
 use mathlib.Core.Path.{_≡_, refl, subst}
 use native.Mathlib.Omega.{arith}
 use lib.Dec.{eqb, leb}
@@ -16,7 +17,7 @@ use Rattle.board_layout.specs.declared.Shape.{Shape}
 use Rattle.board_layout.specs.declared.Shape.the-variants.{Eeprom, EeprMap, BrdInfo}
 use Rattle.board_records.specs.Records.{fieldUsed, recordUsed}
 use Rattle.board_rules.specs.Judged.{judged}
-use Rattle.board_rules.specs.laws.Accepted.{accepted-clear, header-is, map-second, board-third, map-head, record-place, records-fit, board-head}
+use Rattle.board_rules.specs.laws.Accepted.{accepted-clear, header-is, header-length, header-covers, map-second, board-third, map-head, record-place, records-fit, board-head}
 use Rattle.board_rules.specs.laws.Fields.{reserved-zero}
 use Rattle.board_rules.specs.laws.Walk.{first-three}
 use Rattle.board_writer.specs.PartsOf.{Rebuildable}
@@ -59,11 +60,15 @@ module _ (s : List ℕ) (n : ℕ) (e : judged full s ≡ Accepted n) (r : Rebuil
         orElse-right field (recordsUsed s p shape) c,
       )
 
-  -- the header
-  pub header-zero : Zero s 0 0x20 0x30
+  -- the header: its field within its Length, or none
+  pub header-zero : Zero s 0 0x20 (lengthAt s 0)
   unfolding shapeAt shapeOf
-  header-zero =
-      clear-at 0 Eeprom (rw (header-is full s n e .0) refl) refl (r .header) (omega (arith, header-is full s n e .2)) (kept .0) .0
+  header-zero i a b =
+      elim (header-covers full s n e) [
+        | inl whole ↦ clear-at 0 Eeprom (rw (header-is full s n e .0) refl) refl (r .header) whole (kept .0) .0 i a
+            (omega (arith, header-length full s n e .1))
+        | inr cut ↦ absurd (omega arith)
+      ]
 
   -- the map: its field, and its records
   map-clear : Zero s (mapAt s) 0x2D 0x30 × (recordsUsed s (mapAt s) EeprMap ≡ Nothing)

@@ -5,6 +5,7 @@ use mathlib.Core.List.{List, _++_}
 use mathlib.Core.Path.{_≡_, sym, ap, ap₂, _∙_}
 use native.Mathlib.Omega.{arith}
 use lib.ListN.{length, take, drop}
+use Rattle.board_layout.specs.Layout.{headerLength}
 use Rattle.board_rules.specs.Rules.{covered, checkOver}
 use Rattle.board_writer.specs.Image.{headerOf, imageLength, body, laid, crcLength, check, image}
 use Rattle.board_writer.specs.Parts.{Parts}
@@ -20,23 +21,23 @@ held-part block bytes n m room e h =
 
 module _ (x : Parts) (n : ℕ) (e : imageLength x ≡ n) (fits : n ≤ 65536) where
   -- a header laid over what is at the front of a block
-  header-laid : (block two front : List ℕ) (c l : ℕ) → length front ≡ 0x30 → two ≡ headerOf n c l (x .version) ++ drop 0x30 block
+  header-laid : (block two front : List ℕ) (c l : ℕ) → length front ≡ headerLength (x .header) → two ≡ headerOf (x .header) n c l (x .version) ++ drop (headerLength (x .header)) block
       → Holds block (imageLength x) (front ++ body x) 65536 → Holds two (imageLength x) (laid x c l) 65536
   unfolding laid
   header-laid block two front c l f d h =
-      holds-front block two front (headerOf (imageLength x) c l (x .version)) (body x) (imageLength x) 65536 f
-      (header-length (imageLength x) c l (x .version))
-      (d ∙ ap (λ (k : ℕ). headerOf k c l (x .version) ++ drop 0x30 block) (sym e)) (omega arith) h
+      holds-front block two front (headerOf (x .header) (imageLength x) c l (x .version)) (body x) (headerLength (x .header)) (imageLength x) 65536 f
+      (header-length (x .header) (imageLength x) c l (x .version))
+      (d ∙ ap (λ (k : ℕ). headerOf (x .header) k c l (x .version) ++ drop (headerLength (x .header)) block) (sym e)) (omega arith) h
 
   -- over another header
-  header-again : (block two : List ℕ) (c l d m : ℕ) → two ≡ headerOf n c l (x .version) ++ drop 0x30 block
+  header-again : (block two : List ℕ) (c l d m : ℕ) → two ≡ headerOf (x .header) n c l (x .version) ++ drop (headerLength (x .header)) block
       → Holds block (imageLength x) (laid x d m) 65536 → Holds two (imageLength x) (laid x c l) 65536
   unfolding laid
   header-again block two c l d m t h =
-      header-laid block two (headerOf (imageLength x) d m (x .version)) c l (header-length (imageLength x) d m (x .version)) t h
+      header-laid block two (headerOf (x .header) (imageLength x) d m (x .version)) c l (header-length (x .header) (imageLength x) d m (x .version)) t h
 
-  module _ (front one two : List ℕ) (f : length front ≡ 0x30) (h : Holds one (imageLength x) (front ++ body x) 65536)
-      (t : two ≡ headerOf n 0 0 (x .version) ++ drop 0x30 one) where
+  module _ (front one two : List ℕ) (f : length front ≡ headerLength (x .header)) (h : Holds one (imageLength x) (front ++ body x) 65536)
+      (t : two ≡ headerOf (x .header) n 0 0 (x .version) ++ drop (headerLength (x .header)) one) where
     -- without check fields
     pub laid-plain : Holds two (imageLength x) (laid x 0 0) 65536
     laid-plain = header-laid one two front 0 0 f t h
@@ -46,13 +47,13 @@ module _ (x : Parts) (n : ℕ) (e : imageLength x ≡ n) (fits : n ≤ 65536) wh
       unfolding crcLength
       covers-is = c ∙ ap covered (held-part two (laid x 0 0) n (imageLength x) 65536 e laid-plain)
 
-      module _ (three : List ℕ) (u : three ≡ headerOf n 0 covers (x .version) ++ drop 0x30 two) where
+      module _ (three : List ℕ) (u : three ≡ headerOf (x .header) n 0 covers (x .version) ++ drop (headerLength (x .header)) two) where
         -- with CrcLength
         pub laid-covers : Holds three (imageLength x) (laid x 0 covers) 65536
         laid-covers = header-again two three 0 covers 0 0 u laid-plain
 
         -- with both: the image
-        pub laid-image : (sum : ℕ) (four : List ℕ) → sum ≡ checkOver (take (n - 0) three) covers → four ≡ headerOf n sum covers (x .version) ++ drop 0x30 three
+        pub laid-image : (sum : ℕ) (four : List ℕ) → sum ≡ checkOver (take (n - 0) three) covers → four ≡ headerOf (x .header) n sum covers (x .version) ++ drop (headerLength (x .header)) three
             → Holds four n (image x) 65536
         unfolding image check
         laid-image sum four s w =

@@ -12,13 +12,13 @@ use Rattle.board.specs.declared.Fields.{Fields}
 use Rattle.board.specs.declared.Item.{Item}
 use Rattle.board.specs.declared.ItemAnswer.{ItemAnswer}
 use Rattle.board.specs.declared.MapRecordAnswer.{MapRecordAnswer}
-use Rattle.board_layout.specs.Layout.{shapeAt, structLen, structures, mapAt, records, mapCount}
+use Rattle.board_layout.specs.Layout.{shapeAt, structLen, structures, headerLength, mapAt, records, mapCount}
 use Rattle.board_layout.specs.Places.{headSize, CrcLength, BlkLength, PartSize}
 use Rattle.board_layout.specs.Shapes.{shapeOf, knows}
 use Rattle.board_layout.specs.declared.Records.the-variants.{Map}
 use Rattle.board_layout.specs.declared.Shape.{Shape}
 use Rattle.board_rules.specs.Judged.{judged}
-use Rattle.board_rules.specs.Rules.{promSigAt, coveredUpTo, covered, headerLength}
+use Rattle.board_rules.specs.Rules.{promSigAt, coveredUpTo, covered}
 use Rattle.board_rules.specs.laws.Accepted.{structures-are, check-holds}
 use Rattle.board_rules.specs.laws.Fields.{map-fields}
 use Rattle.board_writer.specs.Image.{mapLength, imageLength, laid, boardLength, mapPlace, recordPlace, boardPlace}
@@ -73,12 +73,12 @@ module _ (x : Parts) (fits : Fits x) (check covers : ℕ) (rest : List ℕ) (sma
         check-holds k s count e .1 ∙ ap (coveredUpTo (structLen s)) none ∙ struct-len-is x check covers rest small
 
     -- items 0, 1 and 2
-    pub header-shown : promSigAt s ≡ Nothing → itemNumbered k s 0 ≡ ItemAnswer.Shown (itemShown eeprom 0 headerLength (Fields.Eeprom (headerShown x)))
+    pub header-shown : promSigAt s ≡ Nothing → itemNumbered k s 0 ≡ ItemAnswer.Shown (itemShown eeprom 0 (headerLength (x .header)) (Fields.Eeprom (headerShown x)))
     unfolding nth shapeOf eepromAt
     header-shown none =
         numbered-at 0 0 (ap (λ (l : List ℕ). nth l 0) (structures-are k s count e))
         ∙ ap ItemAnswer.Shown
-        (item-known k s 0 eeprom headerLength Shape.Eeprom (Fields.Eeprom (headerShown x)) (header-head x check covers rest small) refl refl
+        (item-known k s 0 eeprom (headerLength (x .header)) Shape.Eeprom (Fields.Eeprom (headerShown x)) (header-head x check covers rest small) refl refl
         (λ i.
         known s 0 (Fields.Eeprom (record {
           structlen = struct-len-is x check covers rest small i;
@@ -86,13 +86,13 @@ module _ (x : Parts) (fits : Fits x) (check covers : ℕ) (rest : List ℕ) (sma
           version = version-read x check covers rest fits i;
         }))))
 
-    pub map-shown : itemNumbered k s 1 ≡ ItemAnswer.Shown (itemShown eeprMap mapPlace (mapLength x) (Fields.EeprMap (mapShown x)))
+    pub map-shown : itemNumbered k s 1 ≡ ItemAnswer.Shown (itemShown eeprMap (mapPlace x) (mapLength x) (Fields.EeprMap (mapShown x)))
     unfolding nth shapeOf
     map-shown =
-        numbered-at 1 mapPlace (ap (λ (l : List ℕ). nth l 1) (structures-are k s count e) ∙ ap At (map-at x check covers rest small))
+        numbered-at 1 (mapPlace x) (ap (λ (l : List ℕ). nth l 1) (structures-are k s count e) ∙ ap At (map-at x check covers rest small))
         ∙ ap ItemAnswer.Shown
-        (item-known k s mapPlace eeprMap (mapLength x) Shape.EeprMap (Fields.EeprMap (mapShown x)) (map-head x check covers rest small) refl refl
-        (λ i. known s mapPlace (Fields.EeprMap (map-read x check covers rest small fits i))))
+        (item-known k s (mapPlace x) eeprMap (mapLength x) Shape.EeprMap (Fields.EeprMap (mapShown x)) (map-head x check covers rest small) refl refl
+        (λ i. known s (mapPlace x) (Fields.EeprMap (map-read x check covers rest small fits i))))
 
     pub board-shown : itemNumbered k s 2 ≡ ItemAnswer.Shown (itemShown brdInfo (boardPlace x) boardLength (Fields.BrdInfo (x .board)))
     unfolding nth shapeOf
@@ -112,7 +112,7 @@ module _ (x : Parts) (fits : Fits x) (check covers : ℕ) (rest : List ℕ) (sma
     part-is : x .map .partsize ≡ recordCount x * x .map .blklength
     unfolding eeprMapAt
     part-is =
-        let n : mapCount s mapPlace ≡ recordCount x = omega (arith, map-head x check covers rest small .length) in
+        let n : mapCount s (mapPlace x) ≡ recordCount x = omega (arith, map-head x check covers rest small .length) in
         sym (λ i. map-read x check covers rest small fits i .partsize)
         ∙ subst (λ (m : ℕ). le32 s (m + PartSize) ≡ mapCount s m * le32 s (m + BlkLength)) (map-at x check covers rest small)
         (map-fields k s count e .part)
@@ -121,14 +121,14 @@ module _ (x : Parts) (fits : Fits x) (check covers : ℕ) (rest : List ℕ) (sma
     -- record i is the one given, and past them there is none
     pub record-shown : (i : ℕ) → i < recordCount x → mapRecordNumbered k s i ≡ MapRecordAnswer.Shown (recordShown x i)
     record-shown i h =
-        let place : ℕ → ℕ = recordPlace in
+        let place : ℕ → ℕ = recordPlace x in
         let less : i * x .map .blklength ≤ recordCount x * x .map .blklength = mul-le-mul-right (x .map .blklength) (omega arith) in
         record-at i (At (place i)) (ap (λ (l : List ℕ). nth l i) (records-at x check covers rest small) ∙ nth-tab place (recordCount x) i h)
         ∙ ap MapRecordAnswer.Shown (record-read x check covers rest i h (omega (arith, less, part-is, fits .partSize)))
 
     pub records-end : (i : ℕ) → recordCount x ≤ i → mapRecordNumbered k s i ≡ MapRecordAnswer.Refused beyond
     records-end i h =
-        let place : ℕ → ℕ = recordPlace in
+        let place : ℕ → ℕ = recordPlace x in
         record-at i Nothing
         (ap (λ (l : List ℕ). nth l i) (records-at x check covers rest small)
         ∙ nth-past (tab place (recordCount x)) i (omega (arith, length-tab place (recordCount x))))

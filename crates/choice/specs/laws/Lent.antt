@@ -11,7 +11,7 @@ use Rattle.board_layout.specs.Layout.{structLen, next, mapAt, boardAt}
 use Rattle.board_layout.specs.Places.{Version, ManuName, BrdName, BoardId, FabId, EcId, BoardType}
 use Rattle.board_layout.specs.laws.Same.{struct-len-same, head-same, next-same, map-place-same}
 use Rattle.board_rules.specs.Judged.{judged}
-use Rattle.board_rules.specs.laws.Accepted.{lent-within, struct-len-within, three-fit, board-ends}
+use Rattle.board_rules.specs.laws.Accepted.{lent-within, struct-len-within, struct-len-least, three-fit, board-ends}
 use Rattle.board_rules.specs.laws.Same.{judged-same}
 use Rattle.choice.specs.Choice.{eepromWins, choiceIf, choiceOf, part, chosenOf}
 use Rattle.choice.specs.declared.ChoiceAnswer.{ChoiceAnswer}
@@ -34,8 +34,8 @@ record Like (k : Kinds) (s t : List ℕ) : Type 0 where
 
 -- ---- it lies in the first StructLen bytes of an accepted image
 module _ (k : Kinds) (s t : List ℕ) (n : ℕ) (a : judged k s ≡ Accepted n) (front : take (structLen s) s ≡ take (structLen s) t) (most : length t ≤ 65536) where
-  long : 0x30 ≤ structLen s
-  long = struct-len-within k s n a .0
+  long : 0x20 ≤ structLen s
+  long = struct-len-least k s n a
 
   whole : structLen s ≤ length s
   whole = struct-len-within k s n a .1

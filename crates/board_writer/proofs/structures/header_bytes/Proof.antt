@@ -4,13 +4,19 @@ use Rattle.board_writer.proofs.structures.header_bytes.Tie as tie
 use Prim.Native.Nat.{ℕ}
 use Rattle.octets.specs.Bytes.{spelled}
 use Rattle.octets.specs.Put.{put}
-use Rattle.board_writer.specs.laws.Building.{put-known}
+use Rattle.board_writer.specs.laws.Building.{put-known, header-whole}
 use mathlib.Core.List.{List, _++_}
-use mathlib.Core.Path.{_≡_, refl}
+use mathlib.Core.Path.{_≡_, refl, ap, _∙_}
 use Rattle.board_writer.specs.Image.{head, zeros}
-use Rattle.board_rules.specs.Rules.{headerLength}
+use Rattle.board_layout.specs.Layout.{headerLength}
 use Rattle.kinds.specs.Signatures.{eeprom}
 use borrow.Author.Needs.{needs}
+
+header-length-requires : tie.Need-header-length-requires
+header-length-requires c κs = search needs
+
+cast-head-bytes : tie.Need-cast-head-bytes
+cast-head-bytes c = search needs
 
 head-bytes-requires : tie.Need-head-bytes-requires
 head-bytes-requires c κs = search needs
@@ -85,10 +91,10 @@ returns c =
     let c21 = c19 .before .before in
     let c24 = c21 .before .before .before in
     let c25 = c24 .before in
-    let a = c25 .args in
+    let a = c25 .before .args in
     let e0 : zeros 48 ≡ zeros 48 = refl in
-    let f1 : List ℕ = head eeprom headerLength in
-    let e1 : _ ≡ f1 ++ zeros 32 = put-known 0 (c21 .put-at .ensures) (c24 .head-bytes .ensures) e0 in
+    let f1 : List ℕ = head eeprom (headerLength (a .header)) in
+    let e1 : _ ≡ f1 ++ zeros 32 = put-known 0 (c21 .put-at .ensures) (c24 .head-bytes .ensures ∙ ap (head eeprom) (c25 .header-length .ensures)) e0 in
     let f2 : List ℕ = f1 ++ spelled 4 (a .end) in
     let e2 : _ ≡ f2 ++ zeros 28 = put-known 0x10 (c16 .put-at2 .ensures) (c19 .le32-bytes .ensures) e1 in
     let f3 : List ℕ = f2 ++ spelled 4 (a .check) in
@@ -96,11 +102,14 @@ returns c =
     let f4 : List ℕ = f3 ++ spelled 4 (a .covers) in
     let e4 : _ ≡ f4 ++ zeros 20 = put-known 0x18 (c6 .put-at4 .ensures) (c9 .le32-bytes3 .ensures) e3 in
     put-known 0x1C (c .before .put-at5 .ensures) (c4 .le32-bytes4 .ensures) e4
+    ∙ header-whole (a .header) (a .end) (a .check) (a .covers) (a .version)
 
 pub header-bytes-spec : {M : Type 1} → statement M
 header-bytes-spec =
     tie.close
     (tie.spec
+    header-length-requires
+    cast-head-bytes
     head-bytes-requires
     slice-aggregate-put-at
     slice-aggregate-put-at-2
