@@ -4,7 +4,7 @@
 use Prim.Native.Nat.{ℕ, _+_, _-_, _*_, _/_}
 use mathlib.Core.Bool.{cond}
 use mathlib.Core.List.{List}
-use lib.Dec.{ltb}
+use lib.Dec.{eqb, ltb}
 use Rattle.board_layout.specs.Places.{VerMajor, VerMinor, Length, headSize, StructLen, MapData, mapRecordSize, GpioData, gpioRecordSize}
 use Rattle.board_layout.specs.Shapes.{shapeOf}
 use Rattle.board_layout.specs.declared.Head.{Head}
@@ -63,6 +63,10 @@ structures s = chain (next s) (structLen s) 0
 abbrev pub headerLength : Header → ℕ
 headerLength Short = 0x20
 headerLength Long = 0x30
+
+-- which header has this Length
+abbrev pub headerWith : ℕ → Header
+headerWith n = cond (eqb n (headerLength Short)) Short Long
 
 -- where the second structure, the third, and those after it start
 unfoldable pub mapAt : List ℕ → ℕ

@@ -22,7 +22,7 @@ ghost use mathlib.Core.Path.{_≡_};
 ghost use Prim.Native.Nat.{_+_, _≤_, _<_};
 ghost use lib.ListN.{length, take, drop};
 ghost use Rattle.chain.specs.Nth.{nth};
-ghost use Rattle.board_layout.specs.Layout.{headAt, majorAt, minorAt, lengthAt, shapeAt, structLen, endAt, covers, round16, next, structures, headerLength, mapAt, boardAt, laterAt, dataOffset, recordSize, records};
+ghost use Rattle.board_layout.specs.Layout.{headAt, majorAt, minorAt, lengthAt, shapeAt, structLen, endAt, covers, round16, next, structures, headerLength, headerWith, mapAt, boardAt, laterAt, dataOffset, recordSize, records};
 ghost use Rattle.board_layout.specs.Shapes.{listedShape, shapeOf, knows};
 
 // Which table of the layout paper a structure has: its signature's, of the listed ones with VerMajor 1 only. Other: none.
@@ -287,6 +287,16 @@ pub fn header_length(header: Header) -> u8
         Header::Short => 0x20,
         Header::Long => 0x30,
     }
+}
+
+// The header that has this Length.
+pub fn header_with(length: u32) -> Header
+    ensures { λ r. ⌜ r ≡ headerWith length ⌝ }
+{
+    if length == 0x20 {
+        return Header::Short;
+    }
+    Header::Long
 }
 
 // Where the records of a structure begin, counted from its start.

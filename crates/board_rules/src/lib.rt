@@ -40,7 +40,7 @@ pub use walk::prom_sig;
 use walk::walk_all;
 
 // Whether a Length is that of a header.
-fn is_header_length(length: u32) -> bool
+pub fn is_header_length(length: u32) -> bool
     ensures { λ r. ⌜ r ≡ isHeaderLength length ⌝ }
 {
     length == 0x20 || length == 0x30

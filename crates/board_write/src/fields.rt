@@ -1,6 +1,8 @@
 // The fields of a request: which header, Version, those of the map and those of the board.
 use board::BrdInfoFields;
 use board_layout::Header;
+use board_layout::header_with;
+use board_rules::is_header_length;
 use board_writer::MapFields;
 use console::request::Part;
 use console::request::bytes_of;
@@ -21,19 +23,6 @@ pub struct Fields {
 // Whether a part could be read, and has n bytes.
 fn exactly(part: Part, n: usize) -> bool {
     part.good && part.count == n
-}
-
-// Whether a byte is the Length of a header.
-fn is_header_length(length: u8) -> bool {
-    length == 0x20 || length == 0x30
-}
-
-// The header that has this Length.
-fn header_with(length: u8) -> Header {
-    if length == 0x20 {
-        return Header::Short;
-    }
-    Header::Long
 }
 
 // The fields of the map, as they lie in `$EeprMap` from 10h on.
@@ -73,9 +62,10 @@ pub fn fields_of(line: &[u8]) -> Fields {
     let mut fifth = [0u8; 61];
     let board = bytes_of(line, 5, &mut fifth);
     let whole = exactly(header, 1) && exactly(version, 4) && exactly(map, 29) && exactly(board, 61);
+    let length = byte_at(&first, 0) as u32;
     Fields {
-        good: whole && is_header_length(first[0]),
-        header: header_with(first[0]),
+        good: whole && is_header_length(length),
+        header: header_with(length),
         version: le32_at(&second, 0),
         map: map_fields(&third),
         board: board_fields(&fifth),

@@ -1,17 +1,13 @@
 -- What is read of an image, as the writer takes it. Paper 01, "Writers": "An image accepted with the full list can be rebuilt if it is .. a board without
 -- `$PromSig` and with minor 0 in its first three structures." Each field is what a reader shows of item 0, 1 or 2, or of a map record. Assumes nothing.
 use Prim.Native.Nat.{ℕ, _-_}
-use mathlib.Core.Bool.{cond}
 use mathlib.Core.List.{List, [], _∷_, _++_, map, flatten}
 use mathlib.Core.Path.{_≡_}
-use lib.Dec.{eqb}
 use Rattle.board.specs.Items.{eepromAt, eeprMapAt, brdInfoAt}
 use Rattle.board.specs.Records.{mapRecordAt}
 use Rattle.board.specs.declared.EeprMapFields.{EeprMapFields}
 use Rattle.board.specs.declared.MapRecord.{MapRecord}
-use Rattle.board_layout.specs.Layout.{minorAt, lengthAt, structLen, endAt, headerLength, mapAt, boardAt, records}
-use Rattle.board_layout.specs.declared.Header.{Header}
-use Rattle.board_layout.specs.declared.Header.the-variants.{Short, Long}
+use Rattle.board_layout.specs.Layout.{minorAt, lengthAt, structLen, endAt, headerWith, mapAt, boardAt, records}
 use Rattle.board_layout.specs.declared.Records.the-variants.{Map}
 use Rattle.board_rules.specs.Rules.{promSigAt}
 use Rattle.board_writer.specs.Parts.{Parts}
@@ -19,10 +15,6 @@ use Rattle.board_writer.specs.declared.MapFields.{MapFields}
 use Rattle.chain.specs.declared.Found.the-variants.{Nothing}
 use Rattle.octets.specs.Bytes.{run}
 use Rattle.octets.specs.Runs.{sixteenBytes}
-
--- which header has this Length
-abbrev pub headerWith : ℕ → Header
-headerWith n = cond (eqb n (headerLength Short)) Short Long
 
 -- the map's fields but its records
 abbrev pub mapGiven : EeprMapFields → MapFields

@@ -8,7 +8,7 @@ use mathlib.Core.Path.{_≡_, refl, ap}
 use native.Mathlib.Omega.{arith}
 use lib.Dec.{ltb}
 use borrow.Author.Tests.{le-ltb, ltb-true, ltb-false}
-use Rattle.board_layout.specs.Layout.{lengthAt, structLen, endAt, round16, covers, next, structures, headerLength, recordSize}
+use Rattle.board_layout.specs.Layout.{lengthAt, structLen, endAt, round16, covers, next, structures, headerLength, headerWith, recordSize}
 use Rattle.board_layout.specs.Places.{headSize}
 use Rattle.board_layout.specs.Shapes.{reservedFrom, reservedTo}
 use Rattle.board_layout.specs.declared.Header.{Header}
@@ -96,6 +96,11 @@ header-size Long = (omega arith, omega arith, refl)
 pub header-row : (h : Header) → (reservedTo Eeprom ≤ headerLength h) ⊎ (headerLength h ≡ reservedFrom Eeprom)
 header-row Short = inr refl
 header-row Long = inl (omega arith)
+
+-- the header that has the Length of a header is that one
+pub header-with : (h : Header) → headerWith (headerLength h) ≡ h
+header-with Short = refl
+header-with Long = refl
 
 -- ---- records have from 20h to 30h bytes
 pub record-size : (which : Records) → (0x20 ≤ recordSize which) × (recordSize which ≤ 0x30)

@@ -1,18 +1,17 @@
 -- The parts that are read of an image are those it was made of, whatever its check fields are and whatever bytes follow it. Assumes nothing.
 use Prim.Native.Nat.{ℕ, _+_, _-_, _*_, _%_, _≤_, _<_}
 use mathlib.Core.List.{List, [], _∷_, _++_, flatten}
-use mathlib.Core.Path.{_≡_, refl, ap, ap₂, _∙_}
+use mathlib.Core.Path.{_≡_, ap, ap₂, _∙_}
 use native.Mathlib.Omega.{arith}
 use lib.ListN.{length}
 use Rattle.board.specs.Items.{eepromAt, eeprMapAt, brdInfoAt}
 use Rattle.board.specs.Records.{mapRecordAt}
-use Rattle.board_layout.specs.Layout.{headerLength}
+use Rattle.board_layout.specs.Layout.{headerWith}
 use Rattle.board_layout.specs.Places.{MapLabel, Address}
-use Rattle.board_layout.specs.declared.Header.{Header}
-use Rattle.board_layout.specs.declared.Header.the-variants.{Short, Long}
+use Rattle.board_layout.specs.laws.Layout.{header-with}
 use Rattle.board_writer.specs.Image.{laidRecord, imageLength, laid, crcLength, check, image, mapPlace, recordPlace, furtherPlace}
 use Rattle.board_writer.specs.Parts.{Parts, Fits, givenSize, recordCount, rule46}
-use Rattle.board_writer.specs.PartsOf.{headerWith, mapGiven, recordGiven, recordsOf, furtherOf, partsOf}
+use Rattle.board_writer.specs.PartsOf.{mapGiven, recordGiven, recordsOf, furtherOf, partsOf}
 use Rattle.board_writer.specs.laws.Blocks.{record-lies}
 use Rattle.board_writer.specs.laws.Fields.{version-read, map-read, board-read, further-read}
 use Rattle.board_writer.specs.laws.Length.{recordBlock}
@@ -28,11 +27,6 @@ use Rattle.octets.specs.Bytes.{run, spelled}
 use Rattle.octets.specs.Runs.{sixteenAt, sixteenBytes}
 use Rattle.octets.specs.declared.Sixteen.{Sixteen}
 use Rattle.octets.specs.laws.Bytes.{run-all}
-
--- the header that has the Length of a header is that one
-pub header-with : (h : Header) → headerWith (headerLength h) ≡ h
-header-with Short = refl
-header-with Long = refl
 
 -- whole seventeens are given: as many as the records take
 pub records-whole : (x : Parts) → rule46 x ≡ Nothing → recordCount x * givenSize ≡ length (x .records)

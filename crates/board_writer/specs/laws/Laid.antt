@@ -6,15 +6,15 @@ use mathlib.Core.Path.{_≡_, refl, sym, ap, ap₂, _∙_}
 use native.Mathlib.Omega.{arith}
 use lib.ListN.{take}
 use Rattle.board.specs.Items.{eepromAt, eeprMapAt}
-use Rattle.board_layout.specs.Layout.{lengthAt, structLen, endAt, headerLength, mapAt, boardAt, mapCount}
+use Rattle.board_layout.specs.Layout.{lengthAt, structLen, endAt, headerLength, headerWith, mapAt, boardAt, mapCount}
 use Rattle.board_layout.specs.Places.{Crc32, CrcLength, BlkLength, MapData, mapRecordSize}
 use Rattle.board_layout.specs.declared.Header.{Header}
+use Rattle.board_layout.specs.laws.Layout.{header-with}
 use Rattle.board_rules.specs.Judged.{judged}
 use Rattle.board_rules.specs.laws.Accepted.{struct-len-within, header-is, map-place, map-second, board-third, three-fit, map-head, board-head, board-place, board-ends}
 use Rattle.board_writer.specs.Image.{headerOf, mapOf, laidRecords, boardOf, mapLength, imageLength, body, laid}
 use Rattle.board_writer.specs.Parts.{recordCount}
-use Rattle.board_writer.specs.PartsOf.{headerWith, mapGiven, recordsOf, partsOf, Rebuildable}
-use Rattle.board_writer.specs.laws.Back.{header-with}
+use Rattle.board_writer.specs.PartsOf.{mapGiven, recordsOf, partsOf, Rebuildable}
 use Rattle.board_writer.specs.laws.Fixed.{header-run, map-run, board-run}
 use Rattle.board_writer.specs.laws.Read.{joined}
 use Rattle.board_writer.specs.laws.Records.{records-length, laid-records}
