@@ -37,8 +37,8 @@ static const struct command commands[] = {
     {"write", 1, FORMAT | OUT, write_command, "REQUEST", "write an image",
      "Writes the image that the request in a file asks for: to OUT, or in hexadecimal.\n"
      "A request is a line:\n"
-     "  ROOM; RUN  or  ROOM; RUN; POOL                    a tiny image\n"
-     "  ROOM; VERSION; MAP; RECORDS; BOARD; FURTHER       a board image\n"
+     "  ROOM; RUN  or  ROOM; RUN; POOL                         a tiny image\n"
+     "  ROOM; HEADER; VERSION; MAP; RECORDS; BOARD; FURTHER    a board image\n"
      "ROOM is how many bytes the image may take, in decimal; the other parts are bytes\n"
      "in hexadecimal.\n"},
     {"upload", 3, 0, upload_command, "CHIP PHOTOGRAPH FOLDER",

@@ -103,7 +103,8 @@ static enum status take_answer(char *answer, const char *path, const char *out) 
     if (!refused)
         complain(
             "a request is ROOM; RUN or ROOM; RUN; POOL for a tiny image, "
-            "ROOM; VERSION; MAP; RECORDS; BOARD; FURTHER for a board image; chip(1) says more");
+            "ROOM; HEADER; VERSION; MAP; RECORDS; BOARD; FURTHER for a board image; "
+            "chip(1) says more");
     return refused ? REFUSED : USAGE;
 }
 

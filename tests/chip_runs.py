@@ -149,6 +149,19 @@ def choices(desk):
         fail("chip choose -o never: a file was made of images that are refused")
 
 
+def request_forms(desk):
+    """The forms of a request that docs/WRITING.md has are in the help, in what is said where a line is none, and in chip(1)."""
+    with open("docs/WRITING.md", encoding="utf-8") as f:
+        forms = re.findall(r"^    (ROOM;.*)$", f.read(), re.MULTILINE)
+    with open("chip/chip.1", encoding="utf-8") as f:
+        page = f.read().splitlines()
+    if len(forms) != 3 or any(form not in page for form in forms):
+        fail("chip/chip.1 has not the forms of a request that docs/WRITING.md has: %s" % forms)
+    for form in forms:
+        desk.chip(DONE, "help", "write", out=re.compile(r"(.|\n)* %s [ o](.|\n)*" % form))
+        desk.chip(USAGE, "write", "-", given=b"12; 1", says=" %s " % form)
+
+
 def writes(desk):
     """An image in hexadecimal, or as a file that is replaced as a whole; a refusal, or no request."""
     desk.put("request", REQUEST)
@@ -266,7 +279,7 @@ def try_chip(folder, libraries):
     for name, image in (("tiny", named(b"top1")), ("board", board), ("short", short), ("damaged", named(b"top1")[:-1] + b"\0"), ("other", b"\0" * 60),
                         ("empty", b""), ("long", board.ljust(65536, b"\0")), ("longer", board.ljust(65537, b"\0"))):
         desk.put(name, image)
-    for part in (lists, formats, names, known, choices, writes, outputs, usage, files):
+    for part in (lists, formats, names, known, choices, request_forms, writes, outputs, usage, files):
         part(desk)
     print("tests: %d runs of the command chip ended as they must" % desk.runs)
     return program
