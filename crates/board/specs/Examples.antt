@@ -88,7 +88,7 @@ items : map (itemNumbered full case13) (0 ∷ 1 ∷ 2 ∷ 3 ∷ [])
 unfolding itemNumbered mapRecordNumbered gpioRecordNumbered itemAt restAt eepromAt eeprMapAt brdInfoAt mapRecordAt judged rule20 rule21 rule22 rule23 rule24 rule25 rule26 rule27 rule28 rule29 rule30 rule31 rule32 rule33 rule34 misplaced gapUsed expected outOfOrder promSigAt covered checkOver badMapHead badBoardHead badPromSigHead badHash badHashOf hashSize badMap badMapField badMapRecord repeatedLabel badBoardType reservedUsed badInside shapeAt shapeOf listedShape endAt round16 next mapAt boardAt laterAt records visit chain first nth tab le16 le32 le64 sixteenAt nonzero isText isLabelText textEnd badLabel all crc32 shift shifts step32
 items = refl
 
--- ---- with the short header: item 0 shows Length 20h and data length 10h, item 1 lies at 20h and its records at 50h, item 2 at 70h
+-- ---- with the short header: item 0 shows Length 20h and data length 10h, item 1 lies at 20h and item 2 at 70h
 abbrev short13 : List ℕ
 short13 = short 0xD0 0xEB3F8F78 0xD0 ++ eeprMap 2 ++ brdInfo 0x60 0
 

@@ -64,7 +64,7 @@ abbrev pub headerLength : Header → ℕ
 headerLength Short = 0x20
 headerLength Long = 0x30
 
--- which header has this Length
+-- which header has this Length; for a Length that neither has, which rule 21 refuses, the long one
 abbrev pub headerWith : ℕ → Header
 headerWith n = cond (eqb n (headerLength Short)) Short Long
 

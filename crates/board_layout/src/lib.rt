@@ -289,7 +289,7 @@ pub fn header_length(header: Header) -> u8
     }
 }
 
-// The header that has this Length.
+// The header that has this Length; the long one for a Length that neither has.
 pub fn header_with(length: u32) -> Header
     ensures { λ r. ⌜ r ≡ headerWith length ⌝ }
 {

@@ -48,7 +48,8 @@ image check version serial ec = header check version ++ eeprMap 2 ++ brdInfo ser
 abbrev shorter4 : List ℕ
 shorter4 = short 0xD0 0xEB3F8F78 0xD0 ++ eeprMap 2 ++ brdInfo 0x31 3
 
--- Version 3; Version 4; Version 4 with the short header; Version 4 with another BrdSerial, with another EcId, with three bytes more lent, with one too few, with one bit of Crc32 changed
+-- Version 3; Version 4; Version 4 with the short header; Version 4 with another BrdSerial, with another EcId, with three bytes more lent, with one too few, with
+-- one bit of Crc32 changed
 data Name : Type 0 where
   older : Name
   newer : Name

@@ -1,4 +1,5 @@
--- In an accepted image the reserved row of a known structure lies within its Length or starts where that ends, only the first structure is a `$Eeprom$`, and only the second a `$EeprMap`.
+-- In an accepted image the reserved row of a known structure lies within its Length or starts where that ends, only the first structure is a `$Eeprom$`, and
+-- only the second a `$EeprMap`.
 -- With VerMinor 0 the reserved bytes of a known structure and of its records are zero. Assumes nothing.
 use Prim.Native.Nat.{ℕ, _+_, _-_, _≤_, _<_}
 use mathlib.Core.Bool.{Bool, true, cond}
