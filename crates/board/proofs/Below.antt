@@ -10,18 +10,18 @@ use Rattle.board_layout.specs.Layout.{shape_at, struct_len, end_at, structures, 
 use Rattle.board_layout.specs.Shapes.{knows}
 use Rattle.board_layout.specs.declared.Records.{Records}
 use Rattle.board_layout.specs.declared.Records.TheVariants.{Map, Gpio}
-use Rattle.board_layout.specs.laws.Layout.{record-size}
+use Rattle.board_layout.proofs.laws.Layout.{record-size}
 use Rattle.board_rules.specs.Judged.{judged}
-use Rattle.board_rules.specs.laws.Accepted.{board-third, structures-fit, board-place}
-use Rattle.board_rules.specs.laws.Walk.{Fits}
+use Rattle.board_rules.proofs.laws.Accepted.{board-third, structures-fit, board-place}
+use Rattle.board_rules.proofs.laws.Walk.{Fits}
 use Rattle.chain.specs.Chain.{ahead}
 use Rattle.chain.specs.Nth.{nth}
 use Rattle.chain.specs.declared.Found.{Found}
 use Rattle.chain.specs.declared.Found.TheVariants.{At, Nothing}
-use Rattle.chain.specs.laws.First.{at-nothing}
-use Rattle.chain.specs.laws.Nth.{nth-all}
-use Rattle.chain.specs.laws.Places.{chain-within}
-use Rattle.chain.specs.laws.Steps.{ahead-grows}
+use Rattle.chain.proofs.laws.First.{at-nothing}
+use Rattle.chain.proofs.laws.Nth.{nth-all}
+use Rattle.chain.proofs.laws.Places.{chain-within}
+use Rattle.chain.proofs.laws.Steps.{ahead-grows}
 use Rattle.kinds.specs.declared.Kinds.{Kinds}
 use Rattle.verdict.specs.declared.Judged.TheVariants.{Accepted}
 

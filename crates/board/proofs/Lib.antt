@@ -1,2 +1,3 @@
 -- What several proofs share. Assumes nothing.
 pub mod Below
+pub mod laws

@@ -8,4 +8,3 @@ pub mod NotShown
 pub mod Silent
 pub mod Examples
 pub mod FieldExamples
-pub mod laws

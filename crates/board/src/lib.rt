@@ -1,5 +1,8 @@
 // What a reader shows of a board image: an item by its number, and the records of the map and of GPIO data by theirs. Each of these judges the image
 // first; then 42.
+
+#![tactic(auto)]
+
 ghost use Rattle.std.specs.Prelude.{◌≡◌};
 ghost use Rattle.board.specs.Answers.{item_numbered, map_record_numbered, gpio_record_numbered};
 

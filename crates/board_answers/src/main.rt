@@ -1,5 +1,8 @@
 // Prints every answer of a reader of board images, for a run of images on standard input, so that it can be held against another reader's.
 // tests/README.md has the form of the input and of the lines.
+
+#![tactic(auto)]
+
 ghost use Rattle.std.specs.Prelude.{◌≤◌, length};
 
 use board_rules::judge;

@@ -4,4 +4,3 @@ pub mod Hash
 pub mod Map
 pub mod Reserved
 pub mod Inside
-pub mod laws

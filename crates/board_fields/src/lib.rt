@@ -1,5 +1,8 @@
 // Rules 26 and 29 to 33 at one structure of a board image: its head, its fields and its records. The crate board_rules asks them along the walk.
 // Every public function is total: a byte past the end of the image reads as 0.
+
+#![tactic(auto)]
+
 ghost use Rattle.std.specs.Prelude.{◌≡◌, ltb};
 ghost use Rattle.chain.specs.First.{when};
 ghost use Rattle.octets.specs.Bytes.{byte};

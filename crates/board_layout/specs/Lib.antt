@@ -4,4 +4,3 @@ pub mod Shapes
 pub mod Tables
 pub mod Layout
 pub mod Examples
-pub mod laws

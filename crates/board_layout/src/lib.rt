@@ -1,5 +1,8 @@
 // The layout of a board image: structures on boundaries of 16 bytes, each with a generic head; and the records of two of them.
 // Every public function is total: a byte past the end of the image reads as 0.
+
+#![tactic(auto)]
+
 ghost use Rattle.std.specs.Prelude.{◌≡◌, ◌+◌, ◌≤◌, ◌<◌, length, take, drop};
 ghost use Rattle.chain.specs.Nth.{nth};
 ghost use Rattle.board_layout.specs.Layout.{head_at, major_at, minor_at, length_at, shape_at, struct_len, end_at, covers, round16, next, structures, header_length, header_with, map_at, board_at, later_at, data_offset, record_size, records};

@@ -2,4 +2,3 @@
 pub mod Records
 pub mod Tests
 pub mod Examples
-pub mod laws

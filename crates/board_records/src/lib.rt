@@ -1,5 +1,8 @@
 // The records of a map and of GPIO data: what rules 30, 34, 32 and 33 say of one record, and the search for the first that breaks one of them.
 // Every public function is total: a byte past the end of the image reads as 0.
+
+#![tactic(auto)]
+
 ghost use Rattle.std.specs.Prelude.{◌≡◌, ◌*◌, ◌<◌};
 ghost use Rattle.board_records.specs.Records.{map_number, bad_map_record, repeated_label, data_size_fits, bad_gpio_record, field_used, record_from, record_to};
 ghost use Rattle.board_records.specs.Tests.{records_of, asked_of_record};

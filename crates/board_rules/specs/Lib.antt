@@ -4,4 +4,3 @@ pub mod Judged
 pub mod Broken
 pub mod Findings
 pub mod Examples
-pub mod laws

@@ -1,4 +1,7 @@
 // The rules of board images, 20 to 34, and the judge that applies them in their order.
+
+#![tactic(auto)]
+
 ghost use Rattle.std.specs.Prelude.{◌≡◌, length, drop};
 ghost use Rattle.board_layout.specs.Layout.{structures, map_at, board_at};
 ghost use Rattle.board_rules.specs.Findings.{later_order, Finds};

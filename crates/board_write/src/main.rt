@@ -1,5 +1,8 @@
 // Writes board images: for each line of standard input, from the length of a buffer, which header, Version, the fields and records of the map,
 // the fields of the board and further bytes. docs/WRITING.md has the form of these lines and of the answers.
+
+#![tactic(auto)]
+
 use board_writer::write;
 use console::request::{bytes_of, first_of, number_of, semicolons};
 use console::written::put_written;

@@ -7,4 +7,3 @@ pub mod ReadsBack
 pub mod Shown
 pub mod ExampleParts
 pub mod Examples
-pub mod laws

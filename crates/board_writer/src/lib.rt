@@ -1,5 +1,8 @@
 // Writes board images of either header from Version, the map's fields and records, the board's fields and further bytes. The image is laid in a block of
 // 65,536 bytes, its check fields are worked out there, and it is handed over once a reader accepts it.
+
+#![tactic(auto)]
+
 ghost use Rattle.std.specs.Prelude.{◌++◌, ◌≡◌, ◌+◌, ◌*◌, ◌/◌, ◌≤◌, ◌<◌, min, length, take, drop};
 ghost use Rattle.board_layout.specs.Layout.{header_length};
 ghost use Rattle.board_writer.specs.Image.{header_of, laid_record, laid_records, image_length, body, image};

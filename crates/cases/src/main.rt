@@ -1,5 +1,8 @@
 // Prints check values, one to a line. The file stdout beside it has what they must be: values of published catalogues, the check bytes of
 // the build paper's images, and for the pattern those of another program (zlib, and a bitwise CRC-8).
+
+#![tactic(auto)]
+
 ghost use Rattle.std.specs.Prelude.{◌≤◌, length};
 
 use console::{digit, put};

@@ -10,4 +10,3 @@ pub mod Onward
 pub mod Inside
 pub mod Finds
 pub mod Examples
-pub mod laws

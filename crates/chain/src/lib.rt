@@ -1,4 +1,6 @@
 // Chains of items in an image, and the first place where a rule is broken: definitions and laws, in specs/.
+#![tactic(auto)]
+
 ghost use Rattle.std.specs.Prelude.{◌≡◌};
 ghost use Rattle.chain.specs.First.{or_else};
 

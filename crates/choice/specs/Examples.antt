@@ -16,7 +16,7 @@ use Rattle.board_rules.specs.Rules.{rule20, rule21, rule22, rule23, rule24, rule
 use Rattle.chain.specs.Chain.{visit, chain}
 use Rattle.chain.specs.Fill.{tab}
 use Rattle.chain.specs.First.{first}
-use Rattle.chain.specs.laws.All.{all-of, map-agree}
+use Rattle.chain.proofs.laws.All.{all-of, map-agree}
 use Rattle.choice.specs.Choice.{same_ids, same_board_at, eeprom_wins, choice_if, choice_of, part, chosen_of, Chosen, choice_said}
 use Rattle.crc.specs.Crc32.{crc32, shift, shifts, step32}
 use Rattle.kinds.specs.Kinds.{all, full}

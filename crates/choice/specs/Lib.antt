@@ -1,4 +1,3 @@
 -- The definitions that the contracts cite, examples of them, and laws that other crates may cite. Assumes nothing.
 pub mod Choice
 pub mod Examples
-pub mod laws

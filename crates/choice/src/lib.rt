@@ -1,4 +1,7 @@
 // The choice between a firmware image and an EEPROM image of one board.
+
+#![tactic(auto)]
+
 ghost use Rattle.std.specs.Prelude.{◌≡◌, ◌≤◌};
 ghost use Rattle.choice.specs.Choice.{same_ids, same_board_at, eeprom_wins, of_both, choice_if, choice_of, chosen_of};
 ghost use Rattle.board_rules.specs.Judged.{judged};

@@ -1,5 +1,8 @@
 // Prints the choice between two board images and the part that is handed back, for a run of pairs on standard input, so that they can be held against
 // another program's. tests/README.md has the form of the input and of the lines.
+
+#![tactic(auto)]
+
 ghost use Rattle.std.specs.Prelude.{◌≤◌, length};
 
 use choice::{ChoiceAnswer, choice, chosen};

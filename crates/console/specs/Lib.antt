@@ -2,4 +2,3 @@
 pub mod Digit
 pub mod Request
 pub mod Examples
-pub mod laws

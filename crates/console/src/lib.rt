@@ -1,4 +1,7 @@
 // Standard input and output, for the programs.
+
+#![tactic(auto)]
+
 ghost use Rattle.std.specs.Prelude.{◌≡◌, ◌≤◌, length};
 ghost use Rattle.console.specs.Digit.{hex_digit};
 

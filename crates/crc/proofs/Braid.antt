@@ -10,8 +10,8 @@ use native.Mathlib.Omega.{arith}
 use lib.Bits.{bit_xor, xor_zero_r}
 use lib.ListN.{length}
 use Rattle.crc.specs.Crc32.{shift, shifts}
-use Rattle.crc.specs.laws.Xor.{xor-assoc, xor4}
-use Rattle.crc.specs.laws.Crc32.{shifts-xor, shifts-add}
+use Rattle.crc.proofs.laws.Xor.{xor-assoc, xor4}
+use Rattle.crc.proofs.laws.Crc32.{shifts-xor, shifts-add}
 
 -- nothing stays nothing
 pub shifts-zero : (n : ℕ) → shifts n 0 ≡ 0

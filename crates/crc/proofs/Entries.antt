@@ -14,8 +14,8 @@ use lib.Seq.{get_or-append-add}
 use Rattle.crc.specs.Crc8.{eight_zeros}
 use Rattle.crc.specs.Crc32.{shift, shifts}
 use Rattle.crc.specs.Tables.{Table, Remainders}
-use Rattle.crc.specs.laws.Crc32.{shifts-add}
-use Rattle.crc.specs.laws.Xor.{bit-ind, odd-lt}
+use Rattle.crc.proofs.laws.Crc32.{shifts-add}
+use Rattle.crc.proofs.laws.Xor.{bit-ind, odd-lt}
 use Rattle.crc.proofs.Braid.{shifts-zero}
 use Rattle.crc.proofs.Lookup.{by-parts}
 

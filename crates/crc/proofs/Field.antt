@@ -9,7 +9,7 @@ use native.Mathlib.Omega.{arith}
 use lib.ListN.{length, take, drop, replicate, length-take, length-drop}
 use Rattle.crc.specs.Blank.{blank}
 use Rattle.crc.specs.Crc32.{step32, run32}
-use Rattle.crc.specs.laws.Blank.{fold-blank}
+use Rattle.crc.proofs.laws.Blank.{fold-blank}
 use Rattle.crc.proofs.Runs.{part-rest}
 
 -- an end that is cut to the length

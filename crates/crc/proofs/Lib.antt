@@ -8,3 +8,4 @@ pub mod Loads
 pub mod Lookup
 pub mod Runs
 pub mod Stand
+pub mod laws

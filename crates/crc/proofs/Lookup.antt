@@ -10,7 +10,7 @@ use lib.ListN.{get_or}
 use lib.Pow.{pow_pos, shr-shr, split}
 use Rattle.crc.specs.Crc32.{shifts}
 use Rattle.crc.specs.Tables.{Table}
-use Rattle.crc.specs.laws.Crc32.{shifts-xor, shifts-add, shifts-up}
+use Rattle.crc.proofs.laws.Crc32.{shifts-xor, shifts-add, shifts-up}
 
 -- the rest, and the low w bits
 pub by-parts : (w m x : ℕ) → bit_xor (shifts m (x / 2 ^ w)) (shifts (w + m) (x % 2 ^ w)) ≡ shifts (w + m) x

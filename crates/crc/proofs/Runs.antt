@@ -9,10 +9,10 @@ use lib.Bits.{bit_xor, xor_comm, xor_zero_r, xor_shifted}
 use lib.ListN.{length, take, drop, take-append-drop, length-take, length-drop}
 use lib.Seq.{take-add, take_all}
 use Rattle.octets.specs.Bytes.{Octets, little}
-use Rattle.octets.specs.laws.Bytes.{octets-take, octets-drop}
+use Rattle.octets.proofs.laws.Bytes.{octets-take, octets-drop}
 use Rattle.crc.specs.Crc32.{shifts, step32, run32}
-use Rattle.crc.specs.laws.Crc32.{shifts-xor, shifts-add, shifts-up, run32-append}
-use Rattle.crc.specs.laws.Xor.{xor-assoc}
+use Rattle.crc.proofs.laws.Crc32.{shifts-xor, shifts-add, shifts-up, run32-append}
+use Rattle.crc.proofs.laws.Xor.{xor-assoc}
 
 -- a byte, and what stands above it
 step-word : (c b w : ℕ) → b < 256 → bit_xor (step32 c b) w ≡ shifts 8 (bit_xor c (b + 256 * w))

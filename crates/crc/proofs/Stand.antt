@@ -9,7 +9,7 @@ use lib.ListN.{length, take, drop}
 use Rattle.octets.specs.Bytes.{Octets}
 use Rattle.crc.specs.Crc32.{shifts, run32}
 use Rattle.crc.specs.Tables.{Stand}
-use Rattle.crc.specs.laws.Xor.{xor-assoc}
+use Rattle.crc.proofs.laws.Xor.{xor-assoc}
 use Rattle.crc.proofs.Braid.{shifts-zero, mix, sequence, braid-turn, braid-end}
 use Rattle.crc.proofs.Runs.{at8, run-part, run-next}
 

@@ -6,4 +6,3 @@ pub mod Crc32
 pub mod Blank
 pub mod Examples
 pub mod Tables
-pub mod laws

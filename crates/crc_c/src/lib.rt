@@ -1,4 +1,7 @@
 // The functions of crc, for C. A slice is a pointer and a length: uint32_t chip_crc32(const uint8_t *s, size_t n).
+
+#![tactic(auto)]
+
 ghost use Rattle.std.specs.Prelude.{◌≡◌};
 ghost use Rattle.crc.specs.Blank.{blank};
 ghost use Rattle.crc.specs.Crc32;

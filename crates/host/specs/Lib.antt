@@ -2,4 +2,3 @@
 pub mod Numbers
 pub mod Version
 pub mod Examples
-pub mod laws

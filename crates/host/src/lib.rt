@@ -1,5 +1,8 @@
 // The host's functions: the judges, the choice, the name and the version, for C. A slice is a pointer and a length, a reader's list is the number of its
 // bits, and every answer but the version is one 64-bit number. chip/chip.h declares them and takes an answer apart.
+
+#![tactic(auto)]
+
 ghost use Rattle.std.specs.Prelude.{◌≡◌};
 ghost use Rattle.board_rules.specs.Judged as board;
 ghost use Rattle.choice.specs.Choice.{choice_of, choice_said};

@@ -1,2 +1,3 @@
 -- Laws that only the proofs of this crate need. Assumes nothing.
 pub mod Absent
+pub mod laws

@@ -2,4 +2,3 @@
 pub mod Signatures
 pub mod Kinds
 pub mod Examples
-pub mod laws

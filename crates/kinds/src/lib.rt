@@ -1,4 +1,7 @@
 // A reader's list of known kinds: the tiny tags and the board structures that it knows. Any subset of the seventeen is a valid list.
+
+#![tactic(auto)]
+
 ghost use Rattle.std.specs.Prelude.{◌≡◌};
 ghost use Rattle.kinds.specs.Kinds.{listed, full, bare, extended, from_bits};
 

@@ -6,4 +6,3 @@ pub mod Put
 pub mod Label
 pub mod Rows
 pub mod Examples
-pub mod laws

@@ -1,5 +1,8 @@
 // Bytes of an image: numbers and runs of bytes at a place, text, labels, numbers as bytes, and bytes put into a buffer.
 // Every function is total: a byte past the end of the image reads as 0, so that no caller owes a bound.
+
+#![tactic(auto)]
+
 ghost use Rattle.std.specs.Prelude.{◌≡◌, ◌+◌, ◌≤◌, ◌<◌, true, length};
 ghost use Rattle.chain.specs.declared.Found.{Found};
 ghost use Rattle.octets.specs.Bytes.{byte, le16, le32, le64};

@@ -28,7 +28,7 @@ use Rattle.chain.specs.Nth.{nth}
 use Rattle.chain.specs.Onward.{onward}
 use Rattle.crc.specs.Crc32.{crc32, shift, shifts, step32}
 use Rattle.kinds.specs.Kinds.{listed, picked, all, full, same}
-use Rattle.kinds.specs.laws.Kinds.{full-contains}
+use Rattle.kinds.proofs.laws.Kinds.{full-contains}
 use Rattle.octets.specs.Bytes.{le16, le32, le64, byte}
 use Rattle.octets.specs.Label.{is_text, is_label_text, text_end, bad_label}
 use Rattle.octets.specs.Runs.{sixteen_at, nonzero}

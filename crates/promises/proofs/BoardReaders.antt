@@ -13,7 +13,7 @@ use Rattle.board.specs.declared.Item.{Item}
 use Rattle.board_layout.specs.Layout.{signature_at, major_at, shape_at, structures, records}
 use Rattle.board_layout.specs.Shapes.{knows, on_every_list}
 use Rattle.board_layout.specs.declared.Records.TheVariants.{Gpio}
-use Rattle.board_layout.specs.laws.Shapes.{known-exactly}
+use Rattle.board_layout.proofs.laws.Shapes.{known-exactly}
 use Rattle.board_rules.specs.Judged.{judged}
 use Rattle.chain.specs.Nth.{nth}
 use Rattle.chain.specs.declared.Found.{Found}

@@ -13,32 +13,32 @@ use Rattle.board.specs.Items.{item_at}
 use Rattle.board.specs.NotShown.{NotShown, check, unknown, reserved, record_reserved, following, VersionUnknown}
 use Rattle.board.specs.Shown.{record_shown}
 use Rattle.board.specs.Values as board
-use Rattle.board.specs.laws.AlikeBytes.{gpio-shape, map-shape}
-use Rattle.board.specs.laws.Both as place
-use Rattle.board.specs.laws.Told.{SameShown, known-told, record-told}
+use Rattle.board.proofs.laws.AlikeBytes.{gpio-shape, map-shape}
+use Rattle.board.proofs.laws.Both as place
+use Rattle.board.proofs.laws.Told.{SameShown, known-told, record-told}
 use Rattle.board_layout.specs.Layout.{minor_at, shape_at, struct_len, end_at, next, structures, map_at, data_offset, record_size, records}
 use Rattle.board_layout.specs.Places.{VerMajor, Length, head_size, StructLen}
 use Rattle.board_layout.specs.Shapes.{shape_of, knows, reserved_from, reserved_to, HasRecords}
 use Rattle.board_layout.specs.declared.Records.{Records}
 use Rattle.board_layout.specs.declared.Records.TheVariants.{Map, Gpio}
 use Rattle.board_layout.specs.declared.Shape.TheVariants.{Eeprom, EeprMap, GpioDat}
-use Rattle.board_layout.specs.laws.Tables.{reserved-row}
-use Rattle.board_layout.specs.laws.Layout.{next-grows, record-size}
+use Rattle.board_layout.proofs.laws.Tables.{reserved-row}
+use Rattle.board_layout.proofs.laws.Layout.{next-grows, record-size}
 use Rattle.board_records.specs.Records.{record_from, record_to}
-use Rattle.board_rules.specs.laws.Accepted.{header-is, structures-are, structures-fit}
-use Rattle.board_rules.specs.laws.Rows.{Placed, structures-placed}
-use Rattle.board_rules.specs.laws.Walk.{Fits}
+use Rattle.board_rules.proofs.laws.Accepted.{header-is, structures-are, structures-fit}
+use Rattle.board_rules.proofs.laws.Rows.{Placed, structures-placed}
+use Rattle.board_rules.proofs.laws.Walk.{Fits}
 use Rattle.chain.specs.Chain.{ahead}
 use Rattle.chain.specs.Nth.{nth}
 use Rattle.chain.specs.declared.Found.TheVariants.{At}
-use Rattle.chain.specs.laws.Below.{below}
-use Rattle.chain.specs.laws.Inside.{In, chain-covers}
-use Rattle.chain.specs.laws.Nth.{nth-all}
+use Rattle.chain.proofs.laws.Below.{below}
+use Rattle.chain.proofs.laws.Inside.{In, chain-covers}
+use Rattle.chain.proofs.laws.Nth.{nth-all}
 use Rattle.kinds.specs.declared.Kind.{Kind}
 use Rattle.kinds.specs.declared.Kind.TheVariants.{Tag, Signature}
 use Rattle.kinds.specs.declared.Kinds.{Kinds}
 use Rattle.octets.specs.Bytes.{Octets, byte}
-use Rattle.octets.specs.laws.Same.{Same, le32-same}
+use Rattle.octets.proofs.laws.Same.{Same, le32-same}
 use Rattle.promises.proofs.Fields.{second, map-shown, gpio-shown}
 use Rattle.promises.proofs.Stand.{both-stand}
 use Rattle.promises.specs.Answers.{answers}

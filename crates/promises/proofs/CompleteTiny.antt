@@ -19,7 +19,7 @@ use Rattle.reader.specs.declared.Format.TheVariants.{Tiny}
 use Rattle.tiny.specs.Items.{item_at}
 use Rattle.tiny.specs.NotShown.{InIndex, NotShown}
 use Rattle.tiny.specs.Values.{FieldValues, ItemValues, pool, serial, flags, address, identity, batched, not_known, item_values}
-use Rattle.tiny.specs.laws.Told.{AllBoth, totals, complete-tiny}
+use Rattle.tiny.proofs.laws.Told.{AllBoth, totals, complete-tiny}
 use Rattle.tiny_layout.specs.Pool as layout
 use Rattle.verdict.specs.declared.Judged.TheVariants.{Accepted}
 

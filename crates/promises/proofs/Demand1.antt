@@ -6,8 +6,8 @@ use mathlib.Core.Path.{◌≡◌, refl, ap}
 use lib.ListN.{length}
 use Rattle.board.specs.Answers.{map_record_if, map_record_numbered, gpio_record_if, gpio_record_numbered}
 use Rattle.board.specs.Values.{map_record_said, gpio_record_said}
-use Rattle.board_rules.specs.laws.Table as board-table
-use Rattle.board_writer.specs.laws.Written as board-writer
+use Rattle.board_rules.proofs.laws.Table as board-table
+use Rattle.board_writer.proofs.laws.Written as board-writer
 use Rattle.kinds.specs.declared.Kinds.{Kinds}
 use Rattle.promises.proofs.Verdicts.{refused-by, says-refused}
 use Rattle.promises.specs.Answers.{further_answers, answers}
@@ -20,13 +20,13 @@ use Rattle.reader.specs.declared.Entry.{Entry}
 use Rattle.reader.specs.declared.Format.{Format}
 use Rattle.reader.specs.declared.Format.TheVariants.{Tiny, Board}
 use Rattle.reader.specs.declared.ListAnswer.{ListAnswer}
-use Rattle.reader.specs.laws.Walk.{step-refused}
+use Rattle.reader.proofs.laws.Walk.{step-refused}
 use Rattle.tiny.specs.Answers.{string_if, string_numbered, name_if, name_of}
 use Rattle.tiny.specs.Values.{string_said, name_said}
-use Rattle.tiny.specs.laws.Exactly as tiny
+use Rattle.tiny.proofs.laws.Exactly as tiny
 use Rattle.tiny.specs.declared.NameAnswer.{NameAnswer}
-use Rattle.tiny_rules.specs.laws.Table as tiny-table
-use Rattle.tiny_writer.specs.laws.Written as tiny-writer
+use Rattle.tiny_rules.proofs.laws.Table as tiny-table
+use Rattle.tiny_writer.proofs.laws.Written as tiny-writer
 use Rattle.verdict.specs.Said.{refused}
 use Rattle.verdict.specs.Verdict.{refusal}
 use Rattle.verdict.specs.declared.Judged.{Judged}

@@ -5,9 +5,9 @@ use mathlib.Core.Logic.{◌↔◌}
 use mathlib.Core.Path.{◌≡◌, refl, sym, ap, subst, ◌∙◌}
 use lib.ListN.{length}
 use Rattle.board.specs.Items as board
-use Rattle.board_rules.specs.laws.Table as board-table
-use Rattle.board_writer.specs.laws.Rebuilt as board-rebuilt
-use Rattle.board_writer.specs.laws.Written as board-written
+use Rattle.board_rules.proofs.laws.Table as board-table
+use Rattle.board_writer.proofs.laws.Rebuilt as board-rebuilt
+use Rattle.board_writer.proofs.laws.Written as board-written
 use Rattle.chain.specs.Nth.{nth}
 use Rattle.chain.specs.declared.Found.{Found}
 use Rattle.chain.specs.declared.Found.TheVariants.{At}
@@ -28,9 +28,9 @@ use Rattle.reader.specs.Values.{ItemValues, item_values, item_said}
 use Rattle.reader.specs.declared.Format.{Format}
 use Rattle.reader.specs.declared.Format.TheVariants.{Tiny, Board}
 use Rattle.tiny.specs.Items as tiny
-use Rattle.tiny_rules.specs.laws.Table as tiny-table
-use Rattle.tiny_writer.specs.laws.Rebuilt as tiny-rebuilt
-use Rattle.tiny_writer.specs.laws.Written as tiny-written
+use Rattle.tiny_rules.proofs.laws.Table as tiny-table
+use Rattle.tiny_writer.proofs.laws.Rebuilt as tiny-rebuilt
+use Rattle.tiny_writer.proofs.laws.Written as tiny-written
 use Rattle.verdict.specs.Said.{says}
 use Rattle.verdict.specs.declared.Judged.{Judged}
 use Rattle.verdict.specs.declared.Judged.TheVariants.{Accepted}

@@ -5,7 +5,7 @@ use mathlib.Core.Path.{◌≡◌, refl, sym, ap, subst, ◌∙◌}
 use native.Mathlib.Omega.{arith}
 use lib.ListN.{length, drop, get_or}
 use Rattle.board.specs.Values.{map_record_said}
-use Rattle.board_rules.specs.laws.Shorter as board-rules
+use Rattle.board_rules.proofs.laws.Shorter as board-rules
 use Rattle.kinds.specs.Kinds.{Contains}
 use Rattle.kinds.specs.declared.Kinds.{Kinds}
 use Rattle.promises.proofs.BoardReaders.{board-item-hidden, board-entry-hidden, map-hidden, gpio-hidden}
@@ -24,9 +24,9 @@ use Rattle.reader.specs.Values.{ItemValues, step_said}
 use Rattle.reader.specs.declared.Entry.{Entry}
 use Rattle.reader.specs.declared.Format.{Format}
 use Rattle.reader.specs.declared.Format.TheVariants.{Tiny, Board}
-use Rattle.reader.specs.laws.Formats.{accepted-count}
-use Rattle.reader.specs.laws.Walk.{walk-shows}
-use Rattle.tiny_rules.specs.laws.Shorter as tiny-rules
+use Rattle.reader.proofs.laws.Formats.{accepted-count}
+use Rattle.reader.proofs.laws.Walk.{walk-shows}
+use Rattle.tiny_rules.proofs.laws.Shorter as tiny-rules
 use Rattle.verdict.specs.Said.{Said, says}
 use Rattle.verdict.specs.declared.Judged as verdict
 

@@ -11,10 +11,10 @@ use lib.ListN.{length}
 use Rattle.chain.specs.Chain.{range}
 use Rattle.chain.specs.First.{first, when}
 use Rattle.chain.specs.declared.Found.TheVariants.{Nothing}
-use Rattle.chain.specs.laws.Below.{below}
-use Rattle.chain.specs.laws.Ranges.{range-none}
+use Rattle.chain.proofs.laws.Below.{below}
+use Rattle.chain.proofs.laws.Ranges.{range-none}
 use Rattle.octets.specs.Bytes.{byte, Octets}
-use Rattle.octets.specs.laws.Bytes.{byte-past}
+use Rattle.octets.proofs.laws.Bytes.{byte-past}
 
 -- two tests that both pass
 pub both : (a b : Bool) → a && b ≡ true → (a ≡ true) × (b ≡ true)

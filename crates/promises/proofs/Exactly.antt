@@ -12,14 +12,14 @@ use Rattle.board.specs.Items as board
 use Rattle.board.specs.Items.{item_as}
 use Rattle.board.specs.declared.Item as board-item
 use Rattle.board.specs.Values.{item_fields}
-use Rattle.board.specs.laws.Rows.{structure-rows}
+use Rattle.board.proofs.laws.Rows.{structure-rows}
 use Rattle.board_layout.specs.Layout.{signature_at, major_at, shape_at}
 use Rattle.board_layout.specs.Shapes.{knows}
-use Rattle.board_layout.specs.laws.Shapes.{known-exactly}
+use Rattle.board_layout.proofs.laws.Shapes.{known-exactly}
 use Rattle.chain.specs.Nth.{nth}
 use Rattle.chain.specs.declared.Found.{Found}
 use Rattle.chain.specs.declared.Found.TheVariants.{At, Nothing}
-use Rattle.chain.specs.laws.Below.{below}
+use Rattle.chain.proofs.laws.Below.{below}
 use Rattle.kinds.specs.Kinds.{listed, Contains}
 use Rattle.kinds.specs.declared.Kind.TheVariants.{Tag}
 use Rattle.kinds.specs.declared.Kinds.{Kinds}
@@ -47,8 +47,8 @@ use Rattle.tiny.specs.Texts.{EachIndexed}
 use Rattle.tiny.specs.Values as tiny-values
 use Rattle.tiny.specs.Values.{field_values, name_said}
 use Rattle.tiny.specs.declared.Item as tiny-item
-use Rattle.tiny.specs.laws.Exactly as tiny-exactly
-use Rattle.tiny.specs.laws.Resolved.{each-map, item-text, item-decoded, item-undecoded, string-text, string-beyond, string-unlisted}
+use Rattle.tiny.proofs.laws.Exactly as tiny-exactly
+use Rattle.tiny.proofs.laws.Resolved.{each-map, item-text, item-decoded, item-undecoded, string-text, string-beyond, string-unlisted}
 use Rattle.tiny_layout.specs.Pool.{pool}
 use Rattle.tiny_layout.specs.Strings.{texts}
 use Rattle.tiny_layout.specs.Tags.{shape_of}

@@ -10,13 +10,13 @@ use lib.ListN.{length}
 use Rattle.board.specs.Answers.{map_record, map_record_if, map_record_numbered, is_gpio, gpio_record, gpio_records_at, gpio_record_if, gpio_record_numbered}
 use Rattle.board.specs.Shown.{record_shown}
 use Rattle.board.specs.Values.{map_record_said, gpio_record_said}
-use Rattle.board.specs.laws.AlikeBytes.{gpio-shape}
-use Rattle.board.specs.laws.Rows as board-rows
+use Rattle.board.proofs.laws.AlikeBytes.{gpio-shape}
+use Rattle.board.proofs.laws.Rows as board-rows
 use Rattle.board_layout.specs.Layout.{shape_at, structures, map_at, records}
 use Rattle.board_layout.specs.Shapes.{knows}
 use Rattle.board_layout.specs.declared.Records.TheVariants.{Map, Gpio}
 use Rattle.board_layout.specs.declared.Shape.{Shape}
-use Rattle.board_rules.specs.laws.Accepted.{structures-are}
+use Rattle.board_rules.proofs.laws.Accepted.{structures-are}
 use Rattle.chain.specs.Finds.{Nowhere}
 use Rattle.chain.specs.Keep.{only}
 use Rattle.chain.specs.Nth.{nth}
@@ -47,11 +47,11 @@ use Rattle.tiny.specs.Values as tiny-values
 use Rattle.tiny.specs.Values.{FieldValues, field_values, name_said}
 use Rattle.tiny.specs.declared.Item.{Item}
 use Rattle.tiny.specs.declared.NameAnswer.{NameAnswer}
-use Rattle.tiny.specs.laws.Exactly.{no-name-exactly}
-use Rattle.tiny.specs.laws.Major as tiny-major
-use Rattle.tiny.specs.laws.Resolved.{string-text, string-beyond, name-is-text, name-too-long}
-use Rattle.tiny.specs.laws.Rows as tiny-rows
-use Rattle.tiny.specs.laws.Told.{pool-is}
+use Rattle.tiny.proofs.laws.Exactly.{no-name-exactly}
+use Rattle.tiny.proofs.laws.Major as tiny-major
+use Rattle.tiny.proofs.laws.Resolved.{string-text, string-beyond, name-is-text, name-too-long}
+use Rattle.tiny.proofs.laws.Rows as tiny-rows
+use Rattle.tiny.proofs.laws.Told.{pool-is}
 use Rattle.tiny_layout.specs.Layout.{data_at, next, items}
 use Rattle.tiny_layout.specs.Pool.{is_known, pool}
 use Rattle.tiny_layout.specs.Strings.{texts}
@@ -60,7 +60,7 @@ use Rattle.tiny_layout.specs.declared.Pool.{Pool}
 use Rattle.tiny_layout.specs.declared.Shape as tiny-shape
 use Rattle.tiny_rules.specs.Broken.{Broken11, major_out_of_range}
 use Rattle.tiny_rules.specs.Rules.{is_major}
-use Rattle.tiny_rules.specs.laws.Table.{accepted-exactly}
+use Rattle.tiny_rules.proofs.laws.Table.{accepted-exactly}
 use Rattle.verdict.specs.Said.{Said, says, refused}
 use Rattle.verdict.specs.declared.Judged.{Judged}
 use Rattle.verdict.specs.declared.Judged.TheVariants.{Accepted}

@@ -19,8 +19,8 @@ use Rattle.reader.specs.Values.{item_values, item_said, step_said, list_said}
 use Rattle.reader.specs.declared.Entry.{Entry}
 use Rattle.reader.specs.declared.Format.{Format}
 use Rattle.reader.specs.declared.ListAnswer.{ListAnswer}
-use Rattle.reader.specs.laws.Formats.{accepted-count}
-use Rattle.reader.specs.laws.Walk.{step_found, step-accepted}
+use Rattle.reader.proofs.laws.Formats.{accepted-count}
+use Rattle.reader.proofs.laws.Walk.{step_found, step-accepted}
 use Rattle.verdict.specs.Said.{says, judged_said}
 use Rattle.verdict.specs.declared.Judged.{Judged}
 use Rattle.verdict.specs.declared.Judged.TheVariants.{Accepted}

@@ -7,15 +7,15 @@ use mathlib.Core.Path.{◌≡◌, ap, ◌∙◌}
 use Rattle.board.specs.Values.{map_record_said, gpio_record_said}
 use Rattle.board.specs.declared.ShownItem as board-shown
 use Rattle.board.specs.NotShown as board-shows
-use Rattle.board.specs.laws.Alike as board
-use Rattle.board.specs.laws.AlikeBytes.{Alike, head-alike}
+use Rattle.board.proofs.laws.Alike as board
+use Rattle.board.proofs.laws.AlikeBytes.{Alike, head-alike}
 use Rattle.board_layout.specs.Layout.{signature_at, major_at, shape_at, structures}
 use Rattle.board_layout.specs.Places.{head_size}
 use Rattle.board_layout.specs.Shapes.{knows}
-use Rattle.board_layout.specs.laws.Same.{signature-same, length-same, shape-same}
-use Rattle.board_layout.specs.laws.Shapes.{known-exactly}
+use Rattle.board_layout.proofs.laws.Same.{signature-same, length-same, shape-same}
+use Rattle.board_layout.proofs.laws.Shapes.{known-exactly}
 use Rattle.chain.specs.All.{All}
-use Rattle.chain.specs.laws.Nth.{all-of-nth}
+use Rattle.chain.proofs.laws.Nth.{all-of-nth}
 use Rattle.kinds.specs.declared.Kind.TheVariants.{Tag}
 use Rattle.kinds.specs.declared.Kinds.{Kinds}
 use Rattle.octets.specs.Bytes.{byte}
@@ -33,7 +33,7 @@ use Rattle.tiny.specs.NotShown as tiny-shows
 use Rattle.tiny.specs.Values as tiny-values
 use Rattle.tiny.specs.Values.{name_said}
 use Rattle.tiny.specs.declared.NameAnswer.{NameAnswer}
-use Rattle.tiny.specs.laws.Alike as tiny
+use Rattle.tiny.proofs.laws.Alike as tiny
 use Rattle.tiny_layout.specs.Layout.{items}
 use Rattle.verdict.specs.declared.Judged.TheVariants.{Accepted}
 

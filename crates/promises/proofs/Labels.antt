@@ -9,10 +9,10 @@ use Rattle.board.specs.Values.{map_record_said}
 use Rattle.board_layout.specs.Layout.{map_at, records}
 use Rattle.board_layout.specs.Places.{MapLabel}
 use Rattle.board_layout.specs.declared.Records.TheVariants.{Map}
-use Rattle.board_rules.specs.laws.Labels.{labels-differ}
+use Rattle.board_rules.proofs.laws.Labels.{labels-differ}
 use Rattle.board_writer.specs.Parts.{Parts, Fits, given_size, record_count}
 use Rattle.board_writer.specs.Written.{written}
-use Rattle.board_writer.specs.laws.Written.{written-exactly, written-reads-back}
+use Rattle.board_writer.proofs.laws.Written.{written-exactly, written-reads-back}
 use Rattle.chain.specs.Nth.{nth}
 use Rattle.chain.specs.declared.Found.{Found}
 use Rattle.chain.specs.declared.Found.TheVariants.{At, Nothing}
@@ -21,7 +21,7 @@ use Rattle.kinds.specs.declared.Kinds.{Kinds}
 use Rattle.octets.specs.Label.{label}
 use Rattle.octets.specs.Rows as rows
 use Rattle.octets.specs.Rows.{Field, Value, bytes}
-use Rattle.octets.specs.laws.Runs.{bytes-sixteen}
+use Rattle.octets.proofs.laws.Runs.{bytes-sixteen}
 use Rattle.promises.proofs.Fields.{second, map-by, map-shown}
 use Rattle.promises.proofs.ReadBack.{written-board}
 use Rattle.promises.specs.Answers.{BoardAnswers, answers}

@@ -20,16 +20,16 @@ use Rattle.board_writer.specs.Image.{map_length, board_length, map_place, board_
 use Rattle.board_writer.specs.Parts as board-parts
 use Rattle.board_writer.specs.Shown.{item_shown as structure_shown, header_shown, map_shown}
 use Rattle.board_writer.specs.Written as board-writer
-use Rattle.board_writer.specs.laws.Reader.{written-answers}
+use Rattle.board_writer.proofs.laws.Reader.{written-answers}
 use Rattle.chain.specs.Fill.{tab}
 use Rattle.chain.specs.Keep.{only}
 use Rattle.chain.specs.declared.Found.TheVariants.{At, Nothing}
-use Rattle.chain.specs.laws.Keep.{only-number}
+use Rattle.chain.proofs.laws.Keep.{only-number}
 use Rattle.kinds.specs.Kinds.{full, listed}
 use Rattle.kinds.specs.Signatures.{eeprom, eepr_map, brd_info}
 use Rattle.kinds.specs.declared.Kind.TheVariants.{Tag}
 use Rattle.kinds.specs.declared.Kinds.{Kinds}
-use Rattle.kinds.specs.laws.Kinds.{full-contains}
+use Rattle.kinds.proofs.laws.Kinds.{full-contains}
 use Rattle.octets.specs.Bytes.{byte}
 use Rattle.octets.specs.Rows as rows
 use Rattle.octets.specs.Rows.{Field, Value, shown_rows}
@@ -42,7 +42,7 @@ use Rattle.promises.specs.ReadBack.{given_count, given_item, given_texts, texts_
 use Rattle.reader.specs.Values.{tiny_fields, tiny-fields, not_known, item_values, item_said}
 use Rattle.reader.specs.declared.Format.TheVariants.{Tiny, Board}
 use Rattle.reader.specs.declared.Item as board-over
-use Rattle.reader.specs.laws.Items.{from_board, board-numbered}
+use Rattle.reader.proofs.laws.Items.{from_board, board-numbered}
 use Rattle.tiny.specs.Answers.{is_serial, serials, string_numbered}
 use Rattle.tiny.specs.Items.{fields_at, item_at, pool_shown}
 use Rattle.tiny.specs.Shown.{string_value, item_shown}
@@ -51,23 +51,23 @@ use Rattle.tiny.specs.Values as tiny
 use Rattle.tiny.specs.Values.{field_values, name_said, string_said}
 use Rattle.tiny.specs.declared.Item.{Item}
 use Rattle.tiny.specs.declared.NameAnswer.{NameAnswer}
-use Rattle.tiny.specs.laws.Resolved.{string-text, string-beyond, name-is-text}
-use Rattle.tiny.specs.laws.Told.{pool-is}
+use Rattle.tiny.proofs.laws.Resolved.{string-text, string-beyond, name-is-text}
+use Rattle.tiny.proofs.laws.Told.{pool-is}
 use Rattle.tiny_layout.specs.Layout.{is_long, head_size, data_length, data_at, next, items}
 use Rattle.tiny_layout.specs.Pool.{is_known, pool}
 use Rattle.tiny_layout.specs.Strings.{split, texts}
 use Rattle.tiny_layout.specs.Tables.{table}
 use Rattle.tiny_layout.specs.Tags.{shape_of}
 use Rattle.tiny_layout.specs.declared.Shape.{Shape}
-use Rattle.tiny_layout.specs.laws.Pool.{no-pool}
+use Rattle.tiny_layout.proofs.laws.Pool.{no-pool}
 use Rattle.tiny_rules.specs.Judged.{judged}
-use Rattle.tiny_rules.specs.laws.Shorter.{shorter-accepts}
+use Rattle.tiny_rules.proofs.laws.Shorter.{shorter-accepts}
 use Rattle.tiny_writer.specs.Image as tiny-parts
 use Rattle.tiny_writer.specs.Image.{image, pool_items}
 use Rattle.tiny_writer.specs.Run.{rule46}
 use Rattle.tiny_writer.specs.Written as tiny-writer
-use Rattle.tiny_writer.specs.laws.Shown.{Lies, rows-given, texts-given, place_at, run-stands, good-at, run-lies, pool-stands, pool-lies-last, none-past, run-or-pool, none-pool}
-use Rattle.tiny_writer.specs.laws.Written.{written-within, written-holds, written-reads-back}
+use Rattle.tiny_writer.proofs.laws.Shown.{Lies, rows-given, texts-given, place_at, run-stands, good-at, run-lies, pool-stands, pool-lies-last, none-past, run-or-pool, none-pool}
+use Rattle.tiny_writer.proofs.laws.Written.{written-within, written-holds, written-reads-back}
 use Rattle.verdict.specs.Said.{says, refused, write_said}
 use Rattle.verdict.specs.declared.Judged.TheVariants.{Accepted}
 

@@ -11,7 +11,7 @@ use Rattle.board_layout.specs.declared.Header.TheVariants.{Short, Long}
 use Rattle.board_writer.specs.ExampleParts as board-example
 use Rattle.board_writer.specs.Image.{zeros}
 use Rattle.board_writer.specs.Written as board-writer
-use Rattle.board_writer.specs.laws.Case13.{fits13, told13, told_short}
+use Rattle.board_writer.proofs.laws.Case13.{fits13, told13, told_short}
 use Rattle.chain.specs.Chain.{visit, chain}
 use Rattle.chain.specs.Fill.{tab}
 use Rattle.chain.specs.First.{first}

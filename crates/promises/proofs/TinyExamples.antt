@@ -14,11 +14,11 @@ use Rattle.chain.specs.First.{first}
 use Rattle.chain.specs.Keep.{keep, only}
 use Rattle.chain.specs.Nth.{nth}
 use Rattle.chain.specs.Onward.{onward}
-use Rattle.chain.specs.laws.Nth.{nth-all}
+use Rattle.chain.proofs.laws.Nth.{nth-all}
 use Rattle.crc.specs.Crc8.{crc8, reduce, bring, bits_of, bits_of_all}
 use Rattle.kinds.specs.Kinds.{listed, picked, all, full, same}
 use Rattle.kinds.specs.declared.Kind.TheVariants.{Tag}
-use Rattle.kinds.specs.laws.Kinds.{full-contains}
+use Rattle.kinds.proofs.laws.Kinds.{full-contains}
 use Rattle.octets.specs.Bytes.{le16, byte}
 use Rattle.octets.specs.Label.{is_text}
 use Rattle.promises.proofs.Complete.{complete}

@@ -9,8 +9,8 @@ use lib.Dec.{eqb}
 use Rattle.chain.specs.Keep.{keep, only}
 use Rattle.chain.specs.declared.Found.{Found}
 use Rattle.chain.specs.declared.Found.TheVariants.{At, Nothing}
-use Rattle.chain.specs.laws.All.{all-of}
-use Rattle.chain.specs.laws.Keep.{keep-none}
+use Rattle.chain.proofs.laws.All.{all-of}
+use Rattle.chain.proofs.laws.Keep.{keep-none}
 use Rattle.kinds.specs.Kinds.{listed, Contains}
 use Rattle.kinds.specs.declared.Kind.TheVariants.{Tag}
 use Rattle.kinds.specs.declared.Kinds.{Kinds}
@@ -30,17 +30,17 @@ use Rattle.tiny.specs.Values.{reference_value, identity_values, field_values, st
 use Rattle.tiny.specs.declared.Item.{Item}
 use Rattle.tiny.specs.declared.NameAnswer.{NameAnswer}
 use Rattle.tiny.specs.declared.StringAnswer.{StringAnswer}
-use Rattle.tiny.specs.laws.Exactly.{refused-unchanged, no-name-exactly}
-use Rattle.tiny.specs.laws.Resolved.{reference-unlisted, string-unlisted}
-use Rattle.tiny.specs.laws.Serials.{serial-known, serial-shown}
-use Rattle.tiny.specs.laws.Strings.{as_string, string-by-reference}
+use Rattle.tiny.proofs.laws.Exactly.{refused-unchanged, no-name-exactly}
+use Rattle.tiny.proofs.laws.Resolved.{reference-unlisted, string-unlisted}
+use Rattle.tiny.proofs.laws.Serials.{serial-known, serial-shown}
+use Rattle.tiny.proofs.laws.Strings.{as_string, string-by-reference}
 use Rattle.tiny_layout.specs.Layout.{data_at, items}
 use Rattle.tiny_layout.specs.Pool.{pool}
 use Rattle.tiny_layout.specs.Strings.{reference}
 use Rattle.tiny_layout.specs.Tags.{shape_of}
 use Rattle.tiny_layout.specs.declared.Pool.{Pool}
 use Rattle.tiny_layout.specs.declared.Shape.{Shape}
-use Rattle.tiny_layout.specs.laws.Pool.{pool-lists}
+use Rattle.tiny_layout.proofs.laws.Pool.{pool-lists}
 use Rattle.tiny_rules.specs.Judged.{judged}
 use Rattle.verdict.specs.Said.{Said, says, refused}
 use Rattle.verdict.specs.declared.Judged.TheVariants.{Accepted}

@@ -13,8 +13,8 @@ use Rattle.chain.specs.All.{All}
 use Rattle.chain.specs.Nth.{nth}
 use Rattle.chain.specs.declared.Found.{Found}
 use Rattle.chain.specs.declared.Found.TheVariants.{At, Nothing}
-use Rattle.chain.specs.laws.All.{map-agree}
-use Rattle.chain.specs.laws.Nth.{nth-below, nth-past, nth-all}
+use Rattle.chain.proofs.laws.All.{map-agree}
+use Rattle.chain.proofs.laws.Nth.{nth-below, nth-past, nth-all}
 use Rattle.promises.specs.Demand3.{as_step}
 use Rattle.promises.specs.Hidden.{hide_item, hide_step, hide_list, hide_said}
 use Rattle.reader.specs.Values as reader

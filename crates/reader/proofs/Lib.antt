@@ -3,3 +3,4 @@ pub mod Held
 pub mod Lent
 pub mod Locals
 pub mod Rules
+pub mod laws

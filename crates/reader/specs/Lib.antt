@@ -6,4 +6,3 @@ pub mod Answers
 pub mod Walk
 pub mod Values
 pub mod Examples
-pub mod laws

@@ -1,5 +1,8 @@
 // One reader over both formats: the judge, an item by its number, the list of entries, and a walk from item to item. The order everywhere: the image's
 // own refusal, then 42 or 43. A refused call changes no entry of a lent list.
+
+#![tactic(auto)]
+
 ghost use Rattle.std.specs.Prelude.{◌≡◌};
 ghost use Rattle.octets.specs.Bytes.{Octets};
 ghost use Rattle.reader.specs.Formats.{judged};

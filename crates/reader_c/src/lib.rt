@@ -1,6 +1,9 @@
 // The reader, for C. A slice is a pointer and a length:
 // uint64_t reader_list(uint32_t format, const uint8_t *image, size_t n, uint32_t kinds, Entry *out, size_t room);
 // uint64_t reader_step(uint32_t format, const uint8_t *image, size_t n, uint32_t kinds, size_t number).
+
+#![tactic(auto)]
+
 ghost use Rattle.std.specs.Prelude.{◌≡◌};
 ghost use Rattle.host.specs.Numbers.{number, numbered};
 ghost use Rattle.kinds.specs.Kinds.{from_bits};

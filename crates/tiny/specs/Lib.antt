@@ -9,4 +9,3 @@ pub mod NotShown
 pub mod Cases
 pub mod Examples
 pub mod FieldExamples
-pub mod laws

@@ -1,5 +1,8 @@
 // What a reader shows of a tiny image: an item by its number, a string by its number, and the name. Each of these three judges the image first.
 // The order everywhere: the image's own refusal, then 42, 44, 43. A refused call changes no byte of a lent buffer.
+
+#![tactic(auto)]
+
 ghost use Rattle.std.specs.Prelude.{◌≡◌};
 ghost use Rattle.tiny.specs.Answers.{item_numbered, string_numbered, name_of};
 ghost use Rattle.tiny.specs.Texts.{ShowsTexts, text_numbered};

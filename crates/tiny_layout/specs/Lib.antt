@@ -6,4 +6,3 @@ pub mod Strings
 pub mod Pool
 pub mod Along
 pub mod Examples
-pub mod laws

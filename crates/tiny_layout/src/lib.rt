@@ -1,5 +1,8 @@
 // The layout of a tiny image: items lie end to end, and in a pool strings lie end to end.
 // Every public function is total: a byte past the end of the image reads as 0.
+
+#![tactic(auto)]
+
 ghost use Rattle.std.specs.Prelude.{◌≡◌, ◌<◌, length};
 ghost use Rattle.chain.specs.Chain.{chain};
 ghost use Rattle.chain.specs.Nth.{nth};

@@ -1,4 +1,7 @@
 // Lists the tiny image on standard input with the full list of known kinds. docs/LISTING.md has the format.
+
+#![tactic(auto)]
+
 use console::{at_end, complain};
 use libc::STDIN_FILENO;
 

@@ -1,2 +1,3 @@
 -- What several proofs share. Assumes nothing.
 pub mod Check
+pub mod laws

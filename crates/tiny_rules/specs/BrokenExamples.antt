@@ -17,7 +17,7 @@ use Rattle.tiny_layout.specs.Tags.{shape_of}
 use Rattle.tiny_rules.specs.Broken.{Broken11, minor_out_of_range, table}
 use Rattle.tiny_rules.specs.Judged.{judged}
 use Rattle.tiny_rules.specs.Rules.{rule1, rule2, rule3, rule4, rule5, rule6, rule7, rule8, rule9, rule10, rule11, bad_index, bad_revision, bad_batch, is_major}
-use Rattle.tiny_rules.specs.laws.Table.{refused-exactly, accepted-exactly}
+use Rattle.tiny_rules.proofs.laws.Table.{refused-exactly, accepted-exactly}
 use Rattle.verdict.specs.Table.{Unbroken, FirstBroken}
 
 -- an item of tag 61 with major 64h at place 6 and minor 64h at place 7, and a pool of one string

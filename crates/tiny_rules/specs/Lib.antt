@@ -6,4 +6,3 @@ pub mod Tests
 pub mod Findings
 pub mod Examples
 pub mod BrokenExamples
-pub mod laws

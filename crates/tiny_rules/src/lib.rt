@@ -1,4 +1,7 @@
 // The rules of tiny images, 1 to 11, and the judge that applies them in their order.
+
+#![tactic(auto)]
+
 ghost use Rattle.std.specs.Prelude.{cond, ◌≡◌, ◌≤◌, length, drop};
 ghost use Rattle.chain.specs.Chain.{range};
 ghost use Rattle.chain.specs.First.{first};

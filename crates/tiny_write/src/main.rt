@@ -1,5 +1,8 @@
 // Writes tiny images: for each line of standard input, from the length of a buffer, a run of items and a pool. docs/WRITING.md has the form
 // of these lines and of the answers.
+
+#![tactic(auto)]
+
 use console::request::{bytes_of, first_of, number_of, semicolons};
 use console::written::put_written;
 use console::{at_end, complain, put};

@@ -6,4 +6,3 @@ pub mod PartsOf
 pub mod ReadsBack
 pub mod Building
 pub mod Examples
-pub mod laws

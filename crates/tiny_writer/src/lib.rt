@@ -1,4 +1,7 @@
 // Writes tiny images from a run of items and a pool. The image is built from the front in a block of 255 bytes: header, items, pool, check.
+
+#![tactic(auto)]
+
 ghost use mathlib.Core.List.{◌++◌, flatten};
 ghost use Rattle.std.specs.Prelude.{◌≡◌, ◌+◌, ◌≤◌, min, length, take};
 ghost use Rattle.chain.specs.declared.Found.TheVariants.{Nothing};

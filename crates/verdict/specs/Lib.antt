@@ -4,4 +4,3 @@ pub mod Table
 pub mod Said
 pub mod Written
 pub mod Examples
-pub mod laws

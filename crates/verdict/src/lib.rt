@@ -1,4 +1,7 @@
 // What a judge and a writer answer, in every format.
+
+#![tactic(auto)]
+
 ghost use Rattle.std.specs.Prelude.{◌≡◌};
 ghost use Rattle.verdict.specs.Verdict.{refusal};
 

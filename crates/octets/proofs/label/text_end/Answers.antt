@@ -1,0 +1,25 @@
+-- `text_end` meets its contract: by `all_text` where that tells that the text does not end, and else by the loop, whose invariant is that the text ends,
+-- seen from i on, where it ends. Assumes nothing.
+use Rattle.std.proofs.Common.{◌≡◌, ℕ, ◌+◌, ◌-◌, ◌*◌, ◌/◌, ◌%◌, ◌<◌, ◌≤◌, Bool, true, false, List, [], ◌∷◌, ◌++◌, length, take, drop, refl, sym, ◌∙◌, ap, subst, inl, inr, rules, arith}
+use Rattle.chain.specs.Chain.{ahead}
+use Rattle.chain.specs.First.{when, search}
+use Rattle.chain.proofs.laws.Loops.{one-grows, turn, hit, done}
+use Rattle.octets.specs.Label.{is_label_text, no_text, text_end}
+use Rattle.octets.proofs.laws.Runs.{is-nothing}
+use Rattle.octets.proofs.label.text_end.Goals as goal
+
+pub returns-then-all_text : goal.returns-then-all_text
+returns-then-all_text c = sym (is-nothing _ (sym c.all_text.ensures ∙ c.if-all_text.true))
+
+pub loop-i-init : goal.loop-i-init
+unfolding text_end
+loop-i-init c = refl
+
+pub loop-i-preserved : goal.loop-i-preserved
+loop-i-preserved c = turn _ _ _ one-grows _ _ c.loop-i-test.true (rw (sym (c.is_label_text.ensures ∙ ap is_label_text c.byte_from.ensures) ∙ c.if-is_label_text.true)) refl c.loop-i.invariant
+
+pub returns-else-is_label_text : goal.returns-else-is_label_text
+returns-else-is_label_text c = hit _ _ _ one-grows _ _ c.loop-i-test.true (rw (sym (c.is_label_text.ensures ∙ ap is_label_text c.byte_from.ensures) ∙ c.if-is_label_text.false)) c.loop-i.invariant
+
+pub returns : goal.returns
+returns c = done _ _ _ one-grows _ c.loop-i-test.false c.loop-i.invariant

@@ -1,0 +1,16 @@
+-- `six_at` meets its contract, byte by byte. Assumes nothing.
+use Rattle.std.proofs.Common.{◌≡◌, ℕ, ◌+◌, ◌-◌, ◌*◌, ◌/◌, ◌%◌, ◌<◌, ◌≤◌, Bool, true, false, List, [], ◌∷◌, ◌++◌, length, take, drop, refl, sym, ◌∙◌, ap, subst, inl, inr, rules, arith}
+use Rattle.chain.specs.Fill.{tab}
+use Rattle.octets.specs.Runs.{six_at}
+use Rattle.octets.proofs.six_at.Goals as goal
+
+pub returns : goal.returns
+unfolding six_at tab
+returns c = λ i. record {
+      b0 = c.byte_from.ensures i;
+      b1 = c.byte_from-2.ensures i;
+      b2 = c.byte_from-3.ensures i;
+      b3 = c.byte_from-4.ensures i;
+      b4 = c.byte_from-5.ensures i;
+      b5 = c.byte_from-6.ensures i;
+    }
