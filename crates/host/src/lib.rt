@@ -1,5 +1,5 @@
 // The host's functions: the judges, the choice, the name and the version, for C. A slice is a pointer and a length, a reader's list is the number of its
-// bits, and every answer but the version is one 64-bit number. chip/chip.h declares them and takes an answer apart.
+// bits, and every answer but the version is one 64-bit number. The crate host_c exports them, and chip/chip.h declares them and takes an answer apart.
 
 #![tactic(auto)]
 
@@ -68,40 +68,35 @@ fn choice_number(answer: ChoiceAnswer) -> u64
 }
 
 // The judge of tiny images: the count of items, or the refusal.
-#[unsafe(no_mangle)]
-pub extern "C" fn chip_tiny_judge(image: &[u8], kinds: u32) -> u64
+pub fn chip_tiny_judge(image: &[u8], kinds: u32) -> u64
     ensures { result ≡ number (judged_said (tiny.judged (from_bits kinds) image.now)) }
 {
     judged_number(tiny_rules::judge(image, Kinds::from_bits(kinds)))
 }
 
 // The judge of board images: the count of items, or the refusal.
-#[unsafe(no_mangle)]
-pub extern "C" fn chip_board_judge(image: &[u8], kinds: u32) -> u64
+pub fn chip_board_judge(image: &[u8], kinds: u32) -> u64
     ensures { result ≡ number (judged_said (board.judged (from_bits kinds) image.now)) }
 {
     judged_number(board_rules::judge(image, Kinds::from_bits(kinds)))
 }
 
 // Which of a firmware image and an EEPROM image is chosen, and how many of its bytes: its StructLen; or the firmware image's refusal, if neither is accepted.
-#[unsafe(no_mangle)]
-pub extern "C" fn chip_board_choice(firmware: &[u8], eeprom: &[u8], kinds: u32) -> u64
+pub fn chip_board_choice(firmware: &[u8], eeprom: &[u8], kinds: u32) -> u64
     ensures { result ≡ chosen_number (choice_said (choice_of (from_bits kinds) firmware.now eeprom.now)) }
 {
     choice_number(choice(firmware, eeprom, Kinds::from_bits(kinds)))
 }
 
 // The file name of a tiny image, to the front of a lent buffer: its length, or the refusal; a refused call changes no byte.
-#[unsafe(no_mangle)]
-pub extern "C" fn chip_tiny_name(image: &[u8], kinds: u32, buffer: &mut [u8]) -> u64
+pub fn chip_tiny_name(image: &[u8], kinds: u32, buffer: &mut [u8]) -> u64
     ensures { (result, buffer.new) ≡ numbered name_said (name_of (from_bits kinds) image.now buffer.old) }
 {
     name_number(name(image, Kinds::from_bits(kinds), buffer))
 }
 
 // The version of these functions, for a caller to hold against that of its header.
-#[unsafe(no_mangle)]
-pub extern "C" fn chip_version() -> u32
+pub fn chip_version() -> u32
     ensures { result ≡ version }
 {
     10200
