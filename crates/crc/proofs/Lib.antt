@@ -1,4 +1,4 @@
--- Laws that only the proofs of this crate need.
+-- The laws of the definitions, which other crates may cite (laws), and what only the proofs of this crate need.
 -- Assumes nothing.
 pub mod Braid
 pub mod Entries

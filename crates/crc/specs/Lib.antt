@@ -1,4 +1,4 @@
--- The definitions of crc, and the laws of them that other crates may cite (laws).
+-- The definitions of crc, and examples of them.
 -- Assumes nothing.
 pub mod Crc8
 pub mod Division
