@@ -29,7 +29,7 @@ pub enum Shape {
 }
 
 // The data of a pool: from their first byte up to their end.
-#[derive(Drop)]
+#[derive(Clone, Copy)]
 pub struct Pool {
     pub from: u16,
     pub to: u16,
@@ -43,7 +43,7 @@ pub enum Reference {
 }
 
 // What lies end to end: the items of an image, or the strings of a pool.
-#[derive(Drop)]
+#[derive(Clone, Copy)]
 pub enum Along {
     Items,
     Strings,

@@ -1,0 +1,14 @@
+-- `pool_at` meets its contract: where the data begin, and where the item ends. Assumes nothing.
+use Rattle.std.proofs.Common.{arith}
+use Rattle.octets.specs.Bytes.{byte}
+use Rattle.tiny_layout.specs.Layout.{next}
+use Rattle.tiny_layout.proofs.laws.Layout.{head-bounds, length-bound}
+use Rattle.tiny_layout.proofs.pool_at.Goals as goal
+
+pub overflow_add-result-2 : goal.overflow_add-result-2
+overflow_add-result-2 c = let a = c.args in
+    omega (arith, c.item_size.ensures, (head-bounds (byte a.image.now a.at)).1, length-bound a.image.now a.at (λ p. omega (arith, c.type_inv.image p)))
+
+pub returns : goal.returns
+unfolding next
+returns c = rw (c.head_size.ensures, c.byte_at.ensures, c.item_size.ensures)
