@@ -1,3 +1,4 @@
 -- What several proofs share. Assumes nothing.
+pub mod BrokenExamples
 pub mod Check
 pub mod laws

@@ -5,4 +5,3 @@ pub mod Broken
 pub mod Tests
 pub mod Findings
 pub mod Examples
-pub mod BrokenExamples

@@ -14,7 +14,6 @@ use Rattle.tiny_layout.specs.Layout.{total, check_place, data_at, next, items}
 use Rattle.tiny_layout.specs.Pool.{is_known, is_of, pool}
 use Rattle.tiny_layout.specs.Strings.{is_marked, letter, texts}
 use Rattle.tiny_layout.specs.Tags.{shape_of, index_count}
-use Rattle.tiny_layout.specs.declared.Pool.{Pool}
 use Rattle.tiny_layout.specs.declared.Shape.{Shape}
 
 -- 1: under 4 bytes lent

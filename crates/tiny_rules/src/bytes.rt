@@ -10,7 +10,7 @@ use octets::byte_at;
 use octets::label::is_text;
 
 // What is asked of a byte: rule 9, or, with the string count, rule 10.
-#[derive(Drop)]
+#[derive(Clone, Copy)]
 pub enum ByteTest {
     Unfit,
     Beyond(usize),

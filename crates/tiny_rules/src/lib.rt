@@ -112,16 +112,13 @@ fn judge_items(image: &[u8], kinds: Kinds) -> Judged
         return refused(5, p);
     }
     let found = walk_all(image, kinds);
-    let passing = found.passing;
-    let reserved = found.reserved;
-    let early = found.early;
-    if let Found::At(p) = passing {
+    if let Found::At(p) = found.passing {
         return refused(6, p);
     }
-    if let Found::At(p) = reserved {
+    if let Found::At(p) = found.reserved {
         return refused(7, p);
     }
-    if let Found::At(p) = early {
+    if let Found::At(p) = found.early {
         return refused(8, p);
     }
     judge_data(image, kinds, found)

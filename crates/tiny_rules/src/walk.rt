@@ -16,7 +16,7 @@ use octets::byte_at;
 use tiny_layout::{check_place, head_size, index_count, item_size, shape_of};
 
 // What is read of the item at a place: its tag, where its data begin, and where the next item starts.
-#[derive(Drop)]
+#[derive(Clone, Copy)]
 pub struct Head {
     pub tag: u8,
     pub start: u16,
@@ -135,8 +135,8 @@ fn above_at(image: &[u8], kinds: Kinds, least: usize, head: Head) -> usize
 
 // What is found with the item at a place, after what was found before it.
 fn note(found: Findings, image: &[u8], kinds: Kinds, end: u8, at: u8, head: Head) -> Findings
-    requires seen { Seen image.now end at head }
-    requires count_le_at { found.count ≤ at }
+    requires head_of_item { Seen image.now end at head }
+    requires count_within_place { found.count ≤ at }
     ensures { Noted kinds image.now at found result }
 {
     let passing = found.passing;
