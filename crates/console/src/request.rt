@@ -1,20 +1,20 @@
 // The parts of a request, a line with semicolons between them: decimal numbers, and bytes in hexadecimal.
 ghost use Rattle.std.specs.Prelude.{false, ◌≡◌, ◌+◌, ◌≤◌, length, drop};
-ghost use Rattle.io.specs.Counts.{IsPrefixLen};
+ghost use Rattle.console.specs.Counts.{IsPrefixLen};
 ghost use Rattle.octets.specs.Bytes.{byte};
 ghost use Rattle.console.specs.Request.{before, first_of, semicolons_in, behind, part_of, value, stops, given, decimal_in, number_at, number_in, two_digits, bytes_in, count_in, over};
 
 use octets::{byte_at, byte_from};
 
 // Whether a part could be read; and the number, or how many bytes there are: 0 if it could not.
-#[derive(Drop)]
+#[derive(Clone, Copy)]
 pub struct Part {
     pub good: bool,
     pub count: usize,
 }
 
 // Where a search along a text stops: at a byte, at the first that is no blank, at the first that is no decimal digit.
-#[derive(Drop)]
+#[derive(Clone, Copy)]
 pub enum Stop {
     Found(u8),
     NoBlank,
