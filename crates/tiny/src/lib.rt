@@ -96,8 +96,8 @@ pub enum NameAnswer {
 
 // The item of a number, counted from 0 in image order.
 pub fn item_numbered(image: &[u8], kinds: Kinds, number: usize) -> ItemAnswer
-    ensures value { result ≡ item_numbered kinds image.now number }
-    ensures shows_texts { ShowsTexts kinds image.now result }
+    ensures answer { result ≡ item_numbered kinds image.now number }
+    ensures texts { ShowsTexts kinds image.now result }
 {
     let judgement = judge(image, kinds);
     match judgement {
@@ -116,8 +116,8 @@ pub fn item_numbered(image: &[u8], kinds: Kinds, number: usize) -> ItemAnswer
 
 // The string of a number in the listed pool; undecodable for every number where 01 is not on the list.
 pub fn string_numbered(image: &[u8], kinds: Kinds, number: usize) -> StringAnswer
-    ensures value { result ≡ string_numbered kinds image.now number }
-    ensures result_value { string_said image.now result ≡ text_numbered kinds image.now number }
+    ensures answer { result ≡ string_numbered kinds image.now number }
+    ensures text_said { string_said image.now result ≡ text_numbered kinds image.now number }
 {
     let judgement = judge(image, kinds);
     match judgement {
