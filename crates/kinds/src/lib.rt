@@ -33,14 +33,14 @@ pub const U_CODE: u64 = 0x0024_6564_6F43_7524; // $uCode$
 pub const VIDEO: u64 = 0x0024_6F65_6469_5624; // $Video$
 
 // A kind of item: a tiny tag, or the eight bytes of a board structure's signature as the number they spell, the first lowest.
-#[derive(Drop)]
+#[derive(Clone, Copy)]
 pub enum Kind {
     Tag(u8),
     Signature(u64),
 }
 
 // A reader's list of known kinds: a mark for each.
-#[derive(Drop)]
+#[derive(Clone, Copy)]
 pub struct Kinds {
     pub tag01: bool,
     pub tag10: bool,

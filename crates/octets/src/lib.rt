@@ -15,14 +15,14 @@ pub mod label;
 pub mod spell;
 
 // Where something lies in an image, and how many bytes it has.
-#[derive(Drop)]
+#[derive(Clone, Copy)]
 pub struct Span {
     pub place: usize,
     pub length: usize,
 }
 
 // Six bytes in image order. (An enum holds no array, so what is shown inside one is a struct of bytes.)
-#[derive(Drop)]
+#[derive(Clone, Copy)]
 pub struct Six {
     pub b0: u8,
     pub b1: u8,
@@ -33,7 +33,7 @@ pub struct Six {
 }
 
 // Eight bytes in image order.
-#[derive(Drop)]
+#[derive(Clone, Copy)]
 pub struct Eight {
     pub b0: u8,
     pub b1: u8,
@@ -46,7 +46,7 @@ pub struct Eight {
 }
 
 // Sixteen bytes in image order: a label or a name.
-#[derive(Drop)]
+#[derive(Clone, Copy)]
 pub struct Sixteen {
     pub b0: u8,
     pub b1: u8,

@@ -20,7 +20,7 @@ pub use items::item_numbered;
 pub use steps::{fresh, step, step_numbered};
 
 // The layout of an image.
-#[derive(Drop)]
+#[derive(Clone, Copy)]
 pub enum Format {
     Tiny,
     Board,
@@ -29,7 +29,7 @@ pub enum Format {
 // One item of the list: its kind (the tag, or the eight bytes of the signature as the number they spell, the first lowest), the place of its first byte, its
 // data length, and whether it is known.
 #[repr(C)]
-#[derive(Drop)]
+#[derive(Clone, Copy)]
 pub struct Entry {
     pub kind: u64,
     pub place: usize,
@@ -38,28 +38,28 @@ pub struct Entry {
 }
 
 // What is answered for the list: how many entries were filled.
-#[derive(Drop)]
+#[derive(Clone, Copy)]
 pub enum ListAnswer {
     Filled(usize),
     Refused(Refusal),
 }
 
 // An item as its format shows it.
-#[derive(Drop)]
+#[derive(Clone, Copy)]
 pub enum Item {
     Tiny(tiny::ShownItem),
     Board(board::ShownItem),
 }
 
 // What is answered for an item by its number.
-#[derive(Drop)]
+#[derive(Clone, Copy)]
 pub enum ItemAnswer {
     Shown(Item),
     Refused(Refusal),
 }
 
 // How far a walk is: the verdict on its image, the pool that its items' strings lie in, where the items end, and the place of the next item, or that end.
-#[derive(Drop)]
+#[derive(Clone, Copy)]
 pub struct Position {
     pub verdict: Judged,
     pub pool: tiny_layout::Pool,
@@ -68,7 +68,7 @@ pub struct Position {
 }
 
 // What a step shows: an item, that none is left, or the image's refusal. A walk that has not stepped shows nothing.
-#[derive(Drop)]
+#[derive(Clone, Copy)]
 pub enum StepAnswer {
     Nothing,
     Shown(Item),
@@ -77,7 +77,7 @@ pub enum StepAnswer {
 }
 
 // A walk over a lent image: the image, its format, the reader's list, how far it is, and what its last step showed.
-#[derive(Drop)]
+#[derive(Clone, Copy)]
 pub struct Walk<'a> {
     pub image: &'a [u8],
     pub format: Format,
