@@ -51,13 +51,14 @@ pub enum Header {
 }
 
 // The records of a map, or of GPIO data.
-#[derive(Drop)]
+#[derive(Clone, Copy)]
 pub enum Records {
     Map,
     Gpio,
 }
 
 // The table of a structure that a list may hold.
+#[tactic(auto, unfolding(crate::specs::Shapes::listed_shape))]
 fn listed_shape(signature: u64) -> Shape
     ensures { result ≡ listed_shape signature }
 {
@@ -76,6 +77,7 @@ fn listed_shape(signature: u64) -> Shape
 }
 
 // The table of a structure, by its signature and VerMajor.
+#[tactic(auto, unfolding(crate::specs::Shapes::shape_of))]
 pub fn shape_of(signature: u64, major: u16) -> Shape
     ensures { result ≡ shape_of signature major }
 {
