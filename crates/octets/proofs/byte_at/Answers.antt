@@ -1,5 +1,5 @@
 -- `byte_at` meets its contract: past the end a byte reads as 0. Assumes nothing.
-use Rattle.std.proofs.Common.{◌≡◌, ℕ, ◌+◌, ◌-◌, ◌*◌, ◌/◌, ◌%◌, ◌<◌, ◌≤◌, Bool, true, false, List, [], ◌∷◌, ◌++◌, length, take, drop, refl, sym, ◌∙◌, ap, subst, inl, inr, rules, arith}
+use Rattle.std.proofs.Common.{sym}
 use Rattle.octets.proofs.laws.Bytes.{byte-past}
 use Rattle.octets.proofs.byte_at.Goals as goal
 

@@ -1,5 +1,5 @@
 -- `byte_from` meets its contract: past the end a byte reads as 0, and no sum is made that could wrap. Assumes nothing.
-use Rattle.std.proofs.Common.{◌≡◌, ℕ, ◌+◌, ◌-◌, ◌*◌, ◌/◌, ◌%◌, ◌<◌, ◌≤◌, Bool, true, false, List, [], ◌∷◌, ◌++◌, length, take, drop, refl, sym, ◌∙◌, ap, subst, inl, inr, rules, arith}
+use Rattle.std.proofs.Common.{◌+◌, sym, arith}
 use Rattle.octets.proofs.laws.Bytes.{byte-past}
 use Rattle.octets.proofs.byte_from.Goals as goal
 

@@ -1,5 +1,4 @@
 -- `eight_at` meets its contract, byte by byte. Assumes nothing.
-use Rattle.std.proofs.Common.{◌≡◌, ℕ, ◌+◌, ◌-◌, ◌*◌, ◌/◌, ◌%◌, ◌<◌, ◌≤◌, Bool, true, false, List, [], ◌∷◌, ◌++◌, length, take, drop, refl, sym, ◌∙◌, ap, subst, inl, inr, rules, arith}
 use Rattle.chain.specs.Fill.{tab}
 use Rattle.octets.specs.Runs.{eight_at}
 use Rattle.octets.proofs.eight_at.Goals as goal

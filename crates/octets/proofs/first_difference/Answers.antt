@@ -1,9 +1,7 @@
 -- `first_difference` meets its contract. The loop's invariant: the first difference from i on is the first of all. Assumes nothing.
-use Rattle.std.proofs.Common.{◌≡◌, ℕ, ◌+◌, ◌-◌, ◌*◌, ◌/◌, ◌%◌, ◌<◌, ◌≤◌, Bool, true, false, List, [], ◌∷◌, ◌++◌, length, take, drop, refl, sym, ◌∙◌, ap, subst, inl, inr, rules, arith, ne_eqb, eq-eqb}
-use Rattle.chain.specs.Chain.{ahead}
-use Rattle.chain.specs.First.{when, search}
+use Rattle.std.proofs.Common.{refl, sym, ◌∙◌, ne_eqb, eq-eqb}
 use Rattle.chain.proofs.laws.Loops.{one-grows, turn, hit, done}
-use Rattle.octets.specs.Runs.{apart, difference}
+use Rattle.octets.specs.Runs.{difference}
 use Rattle.octets.proofs.first_difference.Goals as goal
 
 pub loop-i-init : goal.loop-i-init

@@ -1,8 +1,7 @@
 -- `first_difference` meets its contract. The loop's invariant: the first difference from i on is the first of all. Assumes nothing.
-use Rattle.std.proofs.Common.{◌≡◌, ℕ, ◌+◌, ◌-◌, ◌*◌, ◌/◌, ◌%◌, ◌<◌, ◌≤◌, Bool, true, false, List, [], ◌∷◌, ◌++◌, length, take, drop, refl, sym, ◌∙◌, ap, subst, inl, inr, rules, arith}
+use Rattle.std.proofs.Common.{◌≡◌, ◌-◌}
 use Rattle.chain.specs.Chain.{ahead}
 use Rattle.chain.specs.First.{when, search}
-use Rattle.chain.proofs.laws.Loops.{one-grows, turn, hit, done}
 use Rattle.octets.specs.Runs.{apart, difference}
 use Rattle.octets.proofs.first_difference.Given as goal
 

@@ -1,10 +1,8 @@
 -- `first_nonzero` meets its contract: by `zero_run` where that tells that there is none, and else by the loop. Its invariant:
 -- the first byte that is not zero from i on is the first of all. A byte that is not zero lies within the image, so its place fits. Assumes nothing.
-use Rattle.std.proofs.Common.{◌≡◌, ℕ, ◌+◌, ◌-◌, ◌*◌, ◌/◌, ◌%◌, ◌<◌, ◌≤◌, Bool, true, false, List, [], ◌∷◌, ◌++◌, length, take, drop, refl, sym, ◌∙◌, ap, subst, inl, inr, rules, arith, ne_eqb, eq-eqb}
-use Rattle.chain.specs.Chain.{ahead}
-use Rattle.chain.specs.First.{when, search}
+use Rattle.std.proofs.Common.{◌+◌, refl, sym, ◌∙◌, arith, ne_eqb, eq-eqb}
 use Rattle.chain.proofs.laws.Loops.{one-grows, turn, hit, done}
-use Rattle.octets.specs.Runs.{is_set, nonzero}
+use Rattle.octets.specs.Runs.{nonzero}
 use Rattle.octets.proofs.laws.Bytes.{byte-within}
 use Rattle.octets.proofs.first_nonzero.Goals as goal
 

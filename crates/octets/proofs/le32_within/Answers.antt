@@ -1,5 +1,5 @@
 -- `le32_within` meets its contract: its four bytes make up the number by its definition. Assumes nothing.
-use Rattle.std.proofs.Common.{◌≡◌, ℕ, ◌+◌, ◌-◌, ◌*◌, ◌/◌, ◌%◌, ◌<◌, ◌≤◌, Bool, true, false, List, [], ◌∷◌, ◌++◌, length, take, drop, refl, sym, ◌∙◌, ap, subst, inl, inr, rules, arith, add-zero}
+use Rattle.std.proofs.Common.{ap, arith, add-zero}
 use Rattle.chain.specs.Fill.{tab}
 use Rattle.octets.specs.Bytes.{byte, le32}
 use Rattle.octets.proofs.le32_within.Goals as goal

@@ -1,6 +1,6 @@
 -- `le64_at` meets its contract: eight bytes within are the number, at the end its two halves make it up (`le64-halves`), and past the end it is 0.
 -- Assumes nothing.
-use Rattle.std.proofs.Common.{◌≡◌, ℕ, ◌+◌, ◌-◌, ◌*◌, ◌/◌, ◌%◌, ◌<◌, ◌≤◌, Bool, true, false, List, [], ◌∷◌, ◌++◌, length, take, drop, refl, sym, ◌∙◌, ap, subst, inl, inr, rules, arith}
+use Rattle.std.proofs.Common.{sym, arith}
 use Rattle.octets.proofs.laws.Bytes.{le64-halves, le64-past}
 use Rattle.octets.proofs.le64_at.Goals as goal
 

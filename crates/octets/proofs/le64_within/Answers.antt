@@ -1,5 +1,5 @@
 -- `le64_within` meets its contract: the two halves make up the number (`le64-halves`). Assumes nothing.
-use Rattle.std.proofs.Common.{◌≡◌, ℕ, ◌+◌, ◌-◌, ◌*◌, ◌/◌, ◌%◌, ◌<◌, ◌≤◌, Bool, true, false, List, [], ◌∷◌, ◌++◌, length, take, drop, refl, sym, ◌∙◌, ap, subst, inl, inr, rules, arith}
+use Rattle.std.proofs.Common.{arith}
 use Rattle.octets.proofs.laws.Bytes.{le64-halves}
 use Rattle.octets.proofs.le64_within.Goals as goal
 

@@ -1,6 +1,6 @@
 -- `put_at` meets its contract. The loop's invariant: the first i bytes are put, and the rest of the buffer is as it was. Assumes nothing.
-use Rattle.std.proofs.Common.{◌≡◌, ℕ, ◌+◌, ◌-◌, ◌*◌, ◌/◌, ◌%◌, ◌<◌, ◌≤◌, Bool, true, false, List, [], ◌∷◌, ◌++◌, length, take, drop, refl, sym, ◌∙◌, ap, subst, inl, inr, rules, arith, length-set}
-use Rattle.std.proofs.Math.Seq.{paste, paste-zero}
+use Rattle.std.proofs.Common.{refl, sym, arith, length-set}
+use Rattle.std.proofs.Math.Seq.{paste-zero}
 use Rattle.octets.proofs.laws.Put.{put-none, put-turn, put-done}
 use Rattle.octets.proofs.put_at.Goals as goal
 

@@ -1,8 +1,7 @@
 -- `put_at` meets its contract. The loop's invariant: the first i bytes are put, and the rest of the buffer is as it was. Assumes nothing.
 use Rattle.std.proofs.Math.Seq.{paste}
-use Rattle.std.proofs.Common.{◌≡◌, ℕ, ◌+◌, ◌-◌, ◌*◌, ◌/◌, ◌%◌, ◌<◌, ◌≤◌, Bool, true, false, List, [], ◌∷◌, ◌++◌, length, take, drop, refl, sym, ◌∙◌, ap, subst, inl, inr, rules, arith}
-use Rattle.std.proofs.Math.Seq.{paste, paste-zero}
-use Rattle.octets.proofs.laws.Put.{put-none, put-turn, put-done}
+use Rattle.std.proofs.Common.{◌≡◌, ◌-◌, ◌≤◌, length}
+use Rattle.std.proofs.Math.Seq.{paste}
 use Rattle.octets.proofs.put_at.Given as goal
 
 abbrev pub invariant-loop-i : goal.invariant-loop-i

@@ -1,5 +1,5 @@
 -- `same_run` meets its contract: there is no first difference. Assumes nothing.
-use Rattle.std.proofs.Common.{◌≡◌, ℕ, ◌+◌, ◌-◌, ◌*◌, ◌/◌, ◌%◌, ◌<◌, ◌≤◌, Bool, true, false, List, [], ◌∷◌, ◌++◌, length, take, drop, refl, sym, ◌∙◌, ap, subst, inl, inr, rules, arith}
+use Rattle.std.proofs.Common.{sym, ◌∙◌}
 use Rattle.octets.specs.Runs.{same_run}
 use Rattle.octets.proofs.same_run.Goals as goal
 

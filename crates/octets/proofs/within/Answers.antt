@@ -1,5 +1,5 @@
 -- `within` meets its contract: a byte of the slice is below 256, which the slice's rule says. Assumes nothing.
-use Rattle.std.proofs.Common.{◌≡◌, ℕ, ◌+◌, ◌-◌, ◌*◌, ◌/◌, ◌%◌, ◌<◌, ◌≤◌, Bool, true, false, List, [], ◌∷◌, ◌++◌, length, take, drop, refl, sym, ◌∙◌, ap, subst, inl, inr, rules, arith}
+use Rattle.std.proofs.Common.{arith}
 use Rattle.octets.proofs.within.Goals as goal
 
 pub returns : goal.returns

@@ -1,6 +1,6 @@
 -- `zero_run` meets its contract: what lies between the first eight bytes and the last eight is nothing (`none-by-ends`). Assumes nothing.
 use Rattle.std.proofs.lemmas.Bool.{false≢true}
-use Rattle.std.proofs.Common.{◌≡◌, ℕ, ◌+◌, ◌-◌, ◌*◌, ◌/◌, ◌%◌, ◌<◌, ◌≤◌, Bool, true, false, List, [], ◌∷◌, ◌++◌, length, take, drop, refl, sym, ◌∙◌, ap, subst, inl, inr, rules, arith, eqb-true}
+use Rattle.std.proofs.Common.{sym, ◌∙◌, arith, eqb-true}
 use Rattle.octets.proofs.laws.Runs.{none-by-ends}
 use Rattle.octets.proofs.zero_run.Goals as goal
 

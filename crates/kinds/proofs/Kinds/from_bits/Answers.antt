@@ -1,5 +1,5 @@
 -- `kinds::Kinds::from_bits` meets its contract: each field is the bit that the definition names. Assumes nothing.
-use Rattle.std.proofs.Common.{◌≡◌, ℕ, ◌+◌, ◌-◌, ◌*◌, ◌/◌, ◌%◌, ◌<◌, ◌≤◌, Bool, true, false, List, [], ◌∷◌, ◌++◌, length, take, drop, refl, sym, ◌∙◌, ap, subst, inl, inr, rules, arith}
+use Rattle.std.proofs.Common.{refl}
 use Rattle.kinds.specs.Kinds.{from_bits}
 use Rattle.kinds.proofs.Kinds.from_bits.Goals as goal
 

@@ -1,6 +1,6 @@
 -- `kinds::Kinds::has` meets its contract: an arm has the answer of the function that it calls, and the kind is the one that the arm bound.
 -- Assumes nothing.
-use Rattle.std.proofs.Common.{◌≡◌, ℕ, ◌+◌, ◌-◌, ◌*◌, ◌/◌, ◌%◌, ◌<◌, ◌≤◌, Bool, true, false, List, [], ◌∷◌, ◌++◌, length, take, drop, refl, sym, ◌∙◌, ap, subst, inl, inr, rules, arith}
+use Rattle.std.proofs.Common.{sym, ◌∙◌, ap}
 use Rattle.kinds.specs.Kinds.{listed}
 use Rattle.kinds.proofs.Kinds.has.Goals as goal
 

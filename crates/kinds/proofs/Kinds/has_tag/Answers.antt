@@ -1,6 +1,6 @@
 -- `kinds::Kinds::has_tag` meets its contract: at a number of the table an arm answers the mark of its row, by computation; any other number
 -- has no mark. Assumes nothing.
-use Rattle.std.proofs.Common.{◌≡◌, ℕ, ◌+◌, ◌-◌, ◌*◌, ◌/◌, ◌%◌, ◌<◌, ◌≤◌, Bool, true, false, List, [], ◌∷◌, ◌++◌, length, take, drop, refl, sym, ◌∙◌, ap, subst, inl, inr, rules, arith}
+use Rattle.std.proofs.Common.{sym}
 use Rattle.kinds.specs.Kinds.{listed, tags}
 use Rattle.kinds.proofs.Absent.{unmarked}
 use Rattle.kinds.proofs.Kinds.has_tag.Goals as goal

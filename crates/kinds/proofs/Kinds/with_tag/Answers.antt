@@ -1,5 +1,5 @@
 -- `kinds::Kinds::with_tag` meets its contract: each field is the mark that the definition names, by computation. Assumes nothing.
-use Rattle.std.proofs.Common.{◌≡◌, ℕ, ◌+◌, ◌-◌, ◌*◌, ◌/◌, ◌%◌, ◌<◌, ◌≤◌, Bool, true, false, List, [], ◌∷◌, ◌++◌, length, take, drop, refl, sym, ◌∙◌, ap, subst, inl, inr, rules, arith}
+use Rattle.std.proofs.Common.{refl}
 use Rattle.kinds.specs.Kinds.{extended}
 use Rattle.kinds.proofs.Kinds.with_tag.Goals as goal
 

@@ -1,9 +1,9 @@
 -- `all_text` meets its contract. The loop's invariant: the bytes before i are text, and the text does not end from i on, exactly where it does not end at all.
 -- Assumes nothing.
-use Rattle.std.proofs.Common.{◌≡◌, ℕ, ◌+◌, ◌-◌, ◌*◌, ◌/◌, ◌%◌, ◌<◌, ◌≤◌, Bool, true, false, List, [], ◌∷◌, ◌++◌, length, take, drop, refl, sym, ◌∙◌, ap, subst, inl, inr, rules, arith, ◌&&◌}
+use Rattle.std.proofs.Common.{◌≡◌, ◌-◌, ◌≤◌, ◌&&◌}
 use Rattle.octets.specs.Label.{text_end}
 use Rattle.octets.specs.Runs.{is_nothing}
-use Rattle.octets.proofs.laws.Label.{text_from, full-turn, full-done}
+use Rattle.octets.proofs.laws.Label.{text_from}
 use Rattle.octets.proofs.label.all_text.Given as goal
 
 abbrev pub invariant-loop-i : goal.invariant-loop-i

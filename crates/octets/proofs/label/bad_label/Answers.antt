@@ -1,5 +1,5 @@
 -- `bad_label` meets its contract, by where the text ends. That place fits, since each byte before it is a character, which lies within the image. Assumes nothing.
-use Rattle.std.proofs.Common.{◌≡◌, ℕ, ◌+◌, ◌-◌, ◌*◌, ◌/◌, ◌%◌, ◌<◌, ◌≤◌, Bool, true, false, List, [], ◌∷◌, ◌++◌, length, take, drop, refl, sym, ◌∙◌, ap, subst, inl, inr, rules, arith, ne_eqb, ◌^◌, eq-eqb}
+use Rattle.std.proofs.Common.{sym, ◌∙◌, arith, ne_eqb, ◌^◌, eq-eqb}
 use Rattle.octets.specs.Label.{bad_label}
 use Rattle.octets.proofs.laws.Label.{text-fits, text-within}
 use Rattle.octets.proofs.label.bad_label.Goals as goal

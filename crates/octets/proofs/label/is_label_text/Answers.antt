@@ -1,6 +1,6 @@
 -- `is_label_text` meets its contract: not '$', and a character. Assumes nothing.
 use Rattle.std.proofs.Math.Bool.{and-true}
-use Rattle.std.proofs.Common.{◌≡◌, ℕ, ◌+◌, ◌-◌, ◌*◌, ◌/◌, ◌%◌, ◌<◌, ◌≤◌, Bool, true, false, List, [], ◌∷◌, ◌++◌, length, take, drop, refl, sym, ◌∙◌, ap, subst, inl, inr, rules, arith, ne_eqb}
+use Rattle.std.proofs.Common.{sym, ◌∙◌, ne_eqb}
 use Rattle.octets.specs.Label.{is_label_text}
 use Rattle.octets.proofs.laws.Label.{dollar-text}
 use Rattle.octets.proofs.label.is_label_text.Goals as goal

@@ -1,6 +1,6 @@
 -- `is_text` meets its contract: the two bounds one after the other. Assumes nothing.
 use Rattle.std.proofs.lemmas.Bool.{lt-leb}
-use Rattle.std.proofs.Common.{◌≡◌, ℕ, ◌+◌, ◌-◌, ◌*◌, ◌/◌, ◌%◌, ◌<◌, ◌≤◌, Bool, true, false, List, [], ◌∷◌, ◌++◌, length, take, drop, refl, sym, ◌∙◌, ap, subst, inl, inr, rules, arith, le-leb}
+use Rattle.std.proofs.Common.{le-leb}
 use Rattle.octets.specs.Label.{is_text}
 use Rattle.octets.proofs.label.is_text.Goals as goal
 

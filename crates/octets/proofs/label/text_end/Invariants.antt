@@ -1,11 +1,9 @@
 -- `text_end` meets its contract: by `all_text` where that tells that the text does not end, and else by the loop, whose invariant is that the text ends,
 -- seen from i on, where it ends. Assumes nothing.
-use Rattle.std.proofs.Common.{◌≡◌, ℕ, ◌+◌, ◌-◌, ◌*◌, ◌/◌, ◌%◌, ◌<◌, ◌≤◌, Bool, true, false, List, [], ◌∷◌, ◌++◌, length, take, drop, refl, sym, ◌∙◌, ap, subst, inl, inr, rules, arith}
+use Rattle.std.proofs.Common.{◌≡◌, ◌-◌}
 use Rattle.chain.specs.Chain.{ahead}
 use Rattle.chain.specs.First.{when, search}
-use Rattle.chain.proofs.laws.Loops.{one-grows, turn, hit, done}
-use Rattle.octets.specs.Label.{is_label_text, no_text, text_end}
-use Rattle.octets.proofs.laws.Runs.{is-nothing}
+use Rattle.octets.specs.Label.{no_text, text_end}
 use Rattle.octets.proofs.label.text_end.Given as goal
 
 abbrev pub invariant-loop-i : goal.invariant-loop-i
