@@ -20,7 +20,7 @@ export PREFIX DESTDIR IMAGE FORMAT REQUEST IMAGES SEED BOARDS
 BUILT := target/chip
 PROGRAMS := tiny_list board_list tiny_write board_write
 SOURCES := crates.txt $(shell find crates -name '*.rt' -o -name '*.antt')
-COMPARED := $(PROGRAMS) tiny_answers board_answers choice_answers host reader_c crc_c
+COMPARED := $(PROGRAMS) tiny_answers board_answers choice_answers host_c reader_c crc_c
 STRICT := -std=c11 -Wall -Wextra -pedantic
 BENCH_DIR := target/bench
 BENCH_FLAGS := -std=c11 -O3 -Wall -Wextra -pedantic
@@ -39,17 +39,15 @@ uninstall: ## take away what was installed: make uninstall PREFIX=/usr/local DES
 clean: ## remove target/chip
 	@rm -rf $(BUILT)
 
-distclean: ## remove target, with every proof
-	@rm -rf target
+distclean: ## remove target, and out in each crate, with every proof
+	@rm -rf target crates/*/out
 
 # A stamp: what a run that failed has left is not taken for proved.
 target/proved: $(SOURCES)
-	@scripts/prove $(PROGRAMS) host
+	@scripts/prove $(PROGRAMS) host_c
 	@touch $@
 
 $(BUILT)/lib/libchip.a: target/proved
-	@echo "making the library for C" >&2
-	@rt staticlib host >target/staticlib.log 2>&1 || { cat target/staticlib.log >&2; exit 1; }
 	@mkdir -p $(BUILT)/lib
 	@cp target/staticlib/libhost.a $@
 
@@ -73,24 +71,23 @@ write: ## write an image, without the command: make write REQUEST='12; 10 01 00;
 test: ## the gate: prove everything from nothing, try the must-fail edits, run the programs
 	@.ci/run
 
-check: ## prove what has changed since it was last proved, and run the programs
-	@rt check
+check: ## prove what has changed since it was last proved
+	@rt all check
 
 compare: ## compare with readers and writers in C and Rust: make compare IMAGES=20000 SEED=1 BOARDS=12000
 	@scripts/prove $(COMPARED)
 	@python3 tests/run.py "$${IMAGES:-20000}" "$${SEED:-1}" "$${BOARDS:-12000}"
 
 soak: ## compare more images through C with a reader in Rust: make soak IMAGES=2000000 SEED=2
-	@scripts/prove host reader_c
+	@scripts/prove host_c reader_c
 	@python3 tests/host_runs.py "$${IMAGES:-2000000}" "$${SEED:-2}"
 
 bench: ## time the CRCs against zlib and a plain C loop, and judge, list and name against a reader in Rust and zlib's crc32 (no test)
 	@command -v $(CC) >/dev/null || { echo "bench: no C compiler: $(CC) is not found" >&2; exit 1; }
 	@command -v rustc >/dev/null || { echo "bench: no Rust compiler: rustc is not found" >&2; exit 1; }
 	@echo '#include <zlib.h>' | $(CC) -E - >/dev/null 2>&1 || { echo "bench: zlib.h is missing: install the package zlib1g-dev" >&2; exit 1; }
-	@scripts/prove crc_c host reader_c
+	@scripts/prove crc_c host_c reader_c
 	@mkdir -p $(BENCH_DIR)
-	@for name in crc_c host reader_c; do rt staticlib $$name >$(BENCH_DIR)/log 2>&1 || { cat $(BENCH_DIR)/log >&2; exit 1; }; done
 	@rustc --edition 2021 -C opt-level=3 -C panic=abort --crate-type staticlib -o $(BENCH_DIR)/libindependent.a tests/independent.rs
 	@$(CC) $(BENCH_FLAGS) -o $(BENCH_DIR)/crc bench/crc.c target/staticlib/libcrc_c.a -lz
 	@$(CC) $(BENCH_FLAGS) -o $(BENCH_DIR)/reader bench/reader.c bench/images.c target/staticlib/libhost.a target/staticlib/libreader_c.a \
@@ -99,4 +96,4 @@ bench: ## time the CRCs against zlib and a plain C loop, and judge, list and nam
 	@$(BENCH_DIR)/reader
 
 fmt: ## lay out all Rattle and antt files
-	@rt fmt
+	@for crate in crates/*; do (cd $$crate && rt fmt) || exit 1; done

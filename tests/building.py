@@ -20,18 +20,8 @@ def build(folder, name, *sources):
     return program
 
 
-def exporting(*crates):
-    """Begins to make the static libraries of crates, one after the other: each is proved again for it, which takes a while."""
-    return crates, subprocess.Popen(["sh", "-c", 'for crate; do rt staticlib "$crate" || exit 1; done', "sh", *crates],
-                                    stdout=subprocess.PIPE, stderr=subprocess.STDOUT)
-
-
-def exported(begun):
-    """The static libraries that were begun, by crate."""
-    crates, making = begun
-    said = making.communicate()[0].decode()
-    if making.returncode:
-        fail("a static library cannot be made:\n" + said[-4000:])
+def exported(*crates):
+    """The static libraries of crates, as scripts/prove has built them, by crate."""
     return {crate: "target/staticlib/lib%s.a" % crate for crate in crates}
 
 

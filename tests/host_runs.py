@@ -15,7 +15,7 @@ import sys
 import tempfile
 
 import board_runs
-from building import ENVIRONMENT, build, exported, exporting, fail, independent
+from building import ENVIRONMENT, build, exported, fail, independent
 from coverage import table
 from formats import BOARD, TINY, with_fewer
 
@@ -127,9 +127,8 @@ def main():
     images, seed = map(int, sys.argv[1:])
     os.chdir(os.path.join(os.path.dirname(os.path.abspath(__file__)), ".."))
     with tempfile.TemporaryDirectory() as folder:
-        begun = exporting("host", "reader_c")
         other, _ = independent(folder)
-        table(compare_host(folder, exported(begun), other, images, seed), (0, *TINY.rules, *BOARD.rules, 43, 44))
+        table(compare_host(folder, exported("host", "reader_c"), other, images, seed), (0, *TINY.rules, *BOARD.rules, 43, 44))
 
 
 if __name__ == "__main__":

@@ -47,13 +47,15 @@ def shut(folder):
 def half_built(folder):
     """What a check that failed has left is not taken for proved. An rt stands in that writes the programs and fails."""
     tree, stand_in = os.path.join(folder, "tree"), os.path.join(folder, "failing")
-    for place in ("target/bin", "crates/a"):
-        os.makedirs(os.path.join(tree, place))
+    with open("crates.txt", encoding="utf-8") as f:
+        crates = re.findall(r"^(\w+)[^:\n]*:", f.read(), re.MULTILINE)
+    for crate in crates:
+        os.makedirs(os.path.join(tree, "crates", crate))
     os.mkdir(stand_in)
     for name in ("Makefile", "crates.txt", "scripts"):
         os.symlink(os.path.abspath(name), os.path.join(tree, name))
     with open(os.path.join(stand_in, "rt"), "w") as f:
-        f.write("#!/bin/sh\nfor name in tiny_list board_list tiny_write board_write; do echo >target/bin/$name; done\nexit 1\n")
+        f.write("#!/bin/sh\nmkdir -p out/rlib\necho >out/rlib/stamp\nfor name in tiny_list board_list tiny_write board_write; do echo >out/$name; done\nexit 1\n")
     os.chmod(os.path.join(stand_in, "rt"), 0o755)
     for _ in range(2):
         run = subprocess.run(["make", "-C", tree, "target/proved"], capture_output=True, env={**os.environ, "PATH": stand_in + ":" + os.environ["PATH"]})
@@ -91,15 +93,23 @@ def awkward(folder):
 
 def progress(folder):
     """While crates are proved, a line for each on standard error; where one is not, the end of what the prover said. An rt stands in that only says so."""
-    stand_in = os.path.join(folder, "stand-in")
+    tree, stand_in = os.path.join(folder, "progress"), os.path.join(folder, "stand-in")
+    for crate in ("chain", "octets"):
+        os.makedirs(os.path.join(tree, "crates", crate, "out", "rlib"))
+        with open(os.path.join(tree, "crates", crate, "out", "rlib", "stamp"), "w") as f:
+            f.write("as it was\n")
+    with open(os.path.join(tree, "crates.txt"), "w") as f:
+        f.write("chain:\noctets: chain\n")
+    os.symlink(os.path.abspath("scripts"), os.path.join(tree, "scripts"))
     os.mkdir(stand_in)
     with open(os.path.join(stand_in, "rt"), "w") as f:
-        f.write('#!/bin/sh\necho "rt: chain proved (unchanged since it was last proved)"\necho "rt: octets proved (18 s)"\nexit $STATUS\n')
+        f.write('#!/bin/sh\necho said of it\ncase $PWD in */octets) echo now >out/rlib/stamp; exit $STATUS ;; esac\n')
     os.chmod(os.path.join(stand_in, "rt"), 0o755)
-    for status, due in ((0, b"proved 2 of 2 crates: octets (18 s)\n"), (1, b"prove: not everything is proved; target/prove.log has what rt printed\n")):
-        run = subprocess.run(["scripts/prove", "octets"], capture_output=True,
+    for status, due in ((0, rb"proved 2 of 2 crates: octets \(\d s\)\n"),
+                        (1, b"said of it\nsaid of it\nprove: not everything is proved; target/prove.log has what rt printed\n")):
+        run = subprocess.run(["scripts/prove", "octets"], capture_output=True, cwd=tree,
                              env={**os.environ, "PATH": stand_in + ":" + os.environ["PATH"], "STATUS": str(status)})
-        if run.returncode != status or run.stdout or not run.stderr.endswith(due):
+        if run.returncode != status or run.stdout or not re.fullmatch(due, run.stderr):
             fail("scripts/prove: status %d, %s" % (run.returncode, run.stderr.decode()))
 
 

@@ -46,7 +46,7 @@ sys.path.insert(0, os.path.dirname(os.path.abspath(__file__)))
 import board_images
 import board_runs
 import tiny_images
-from building import ENVIRONMENT, build, exported, exporting, fail, independent
+from building import ENVIRONMENT, build, exported, fail, independent
 from chip_runs import try_chip
 from coverage import table
 from documents import try_documents
@@ -466,7 +466,6 @@ def main():
     number = int(sys.argv[1]) if len(sys.argv) > 1 else 20000
     seed = int(sys.argv[2]) if len(sys.argv) > 2 else 1
     boards = int(sys.argv[3]) if len(sys.argv) > 3 else 12000
-    begun = exporting("host", "reader_c", "crc_c")
     with tempfile.TemporaryDirectory() as folder:
         references = {form: build(folder, form.name, *("tests/reference/" + name for name in form.sources)) for form in (TINY, BOARD)}
         library, answers = independent(folder)
@@ -478,7 +477,7 @@ def main():
                      (compare_writers, BOARD, references[BOARD], boards // 3, seed),
                      (compare_choices, references[BOARD], boards // 3, seed), (fixed, references, others)])
         columns = dict(zip(("tiny-reader", "board-reader", "tiny-writer", "board-writer"), run_jobs()))
-        libraries = exported(begun)
+        libraries = exported("host", "reader_c", "crc_c")
         compare_crcs(folder, libraries, seed)
         try_header(folder, libraries)
         try_upload(folder, libraries, try_chip(folder, libraries))
