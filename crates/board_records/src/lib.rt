@@ -15,7 +15,7 @@ use octets::label::bad_label;
 use octets::{byte_at, first_nonzero, le32_at, le64_at};
 
 // What is asked of a record: rules 30 and 34 of a map's, rule 33 of GPIO data's, rule 32 of either.
-#[derive(Drop)]
+#[derive(Clone, Copy)]
 pub enum RecordRule {
     MapFields,
     RepeatedLabel,
