@@ -16,7 +16,7 @@ use kinds::{
 use octets::{le16_at, le32_at, le64_at};
 
 // Which table of the layout paper a structure has: its signature's, of the listed ones with VerMajor 1 only. Other: none.
-#[derive(Drop)]
+#[derive(Clone, Copy)]
 pub enum Shape {
     Eeprom,
     EeprMap,
