@@ -3,3 +3,4 @@
 pub mod Request
 pub mod Parts
 pub mod Bytes
+pub mod Counts

@@ -1,9 +1,9 @@
 -- What the definitions give on small examples, by computation. Assumes nothing.
 use Rattle.std.specs.Prelude.{true, false, [], ◌∷◌, ◌≡◌, refl}
-use Rattle.console.specs.Request.{before, first-of, semicolons_in, behind, part_of, value, given, decimal_from, number_at, number_in, two_digits, bytes_in, all_pairs, count_in, over}
+use Rattle.console.specs.Request.{before, first_of, semicolons_in, behind, part_of, value, given, decimal_from, number_at, number_in, two_digits, bytes_in, all_pairs, count_in, over}
 
 -- "7;a;"
-first-semicolon : first-of 0x3B (0x37 ∷ 0x3B ∷ 0x61 ∷ 0x3B ∷ []) ≡ 1
+first-semicolon : first_of 0x3B (0x37 ∷ 0x3B ∷ 0x61 ∷ 0x3B ∷ []) ≡ 1
 unfolding before
 first-semicolon = refl
 

@@ -11,8 +11,8 @@ before test [] = 0
 before test (c ∷ cs) = let more = suc (before test cs) in cond (test c) 0 more
 
 -- how many come before the first b
-abbrev pub first-of : ℕ → List ℕ → ℕ
-first-of b l = before (λ c. eqb c b) l
+abbrev pub first_of : ℕ → List ℕ → ℕ
+first_of b l = before (λ c. eqb c b) l
 
 -- how many are semicolons
 unfoldable pub semicolons_in : List ℕ → ℕ
@@ -30,7 +30,7 @@ behind (suc n) (c ∷ cs) =
 
 -- part n of a line, counted from 0: what is behind n semicolons, up to the next one
 unfoldable pub part_of : ℕ → List ℕ → List ℕ
-part_of n l = let rest = behind n l in take (first-of 0x3B rest) rest
+part_of n l = let rest = behind n l in take (first_of 0x3B rest) rest
 
 -- a is at most c, and c at most b
 abbrev pub within : ℕ → ℕ → ℕ → Bool

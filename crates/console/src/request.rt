@@ -1,6 +1,6 @@
 // The parts of a request, a line with semicolons between them: decimal numbers, and bytes in hexadecimal.
 ghost use Rattle.std.specs.Prelude.{false, ◌≡◌, ◌+◌, ◌≤◌, length, drop};
-ghost use Rattle.io.specs.Counts.{IsPrefixLen};
+ghost use Rattle.console.specs.Counts.{IsPrefixLen};
 ghost use Rattle.octets.specs.Bytes.{byte};
 ghost use Rattle.console.specs.Request.{before, first_of, semicolons_in, behind, part_of, value, stops, given, decimal_in, number_at, number_in, two_digits, bytes_in, count_in, over};
 
@@ -14,7 +14,7 @@ pub struct Part {
 }
 
 // Where a search along a text stops: at a byte, at the first that is no blank, at the first that is no decimal digit.
-#[derive(Drop)]
+#[derive(Clone, Copy)]
 pub enum Stop {
     Found(u8),
     NoBlank,

@@ -7,18 +7,18 @@ use Rattle.std.proofs.Common.{◌∙◌, arith, take_all}
 use Rattle.std.proofs.Math.Dec.{eqb, ltb}
 use Rattle.std.proofs.Math.ListN.{length, drop, length-drop}
 use borrow.Author.Tests.{lt-ltb, le-ltb, eq-eqb, ne_eqb}
-use Rattle.console.specs.Request.{first-of, behind, part_of, given, blanks, digits, decimal_in, number_at, number_in}
+use Rattle.console.specs.Request.{first_of, behind, part_of, given, blanks, digits, decimal_in, number_at, number_in}
 
 -- a list from place n on
 rest-all : (l : List ℕ) (n : ℕ) → take (length l - n) (drop n l) ≡ drop n l
 rest-all l n = take_all (length l - n) (drop n l) (omega (arith, length-drop n l))
 
 -- part n: from where it begins, up to the next semicolon
-pub part-slice : (l : List ℕ) (n start k : ℕ) → drop start l ≡ behind n l → k ≡ first-of 0x3B (take (length l - start) (drop start l)) → take (start + k - start) (drop start l) ≡ part_of n l
+pub part-slice : (l : List ℕ) (n start k : ℕ) → drop start l ≡ behind n l → k ≡ first_of 0x3B (take (length l - start) (drop start l)) → take (start + k - start) (drop start l) ≡ part_of n l
 unfolding part_of
 part-slice l n start k e f =
     let z : start + k - start ≡ k = omega arith in
-    let g : k ≡ first-of 0x3B (behind n l) = f ∙ ap (first-of 0x3B) (rest-all l start ∙ e) in
+    let g : k ≡ first_of 0x3B (behind n l) = f ∙ ap (first_of 0x3B) (rest-all l start ∙ e) in
     ap (λ (j : ℕ). take j (drop start l)) z ∙ ap (take k) e ∙ ap (λ (j : ℕ). take j (behind n l)) g
 
 -- a number with blanks before it
