@@ -12,106 +12,110 @@ use console::{put, put_decimal, put_number, put_place, put_refusal};
 use kinds::Kinds;
 use octets::le32_at;
 use verdict::Judged;
+use std::io;
 
 // The line of a record.
-fn put_record(which: Records, image: &[u8], number: usize, place: u32) {
+fn put_record(out: &impl Print, which: Records, image: &[u8], number: usize, place: u32) -> io::Result<()> {
     match which {
-        Records::Map => put_map_record(number, map_record_at(image, place)),
-        Records::Gpio => put_gpio_record(number, gpio_record_at(image, place)),
+        Records::Map => put_map_record(out, number, map_record_at(image, place)),
+        Records::Gpio => put_gpio_record(out, number, gpio_record_at(image, place)),
     }
 }
 
 // The records of the structure at a place: how many, and a line for each. (All of an accepted image lie below 65,536.)
-fn put_records(which: Records, image: &[u8], at: u32, count: usize) {
-    put_decimal_field(b"records", count);
+fn put_records(out: &impl Print, which: Records, image: &[u8], at: u32, count: usize) -> io::Result<()> {
+    put_decimal_field(out, b"records", count)?;
     let mut number = 0;
     while number < count {
         let Found::At(place) = record_place(which, image, at, number) else {
-            return;
+            return Ok(());
         };
         if 65536 <= place {
-            return;
+            return Ok(());
         }
-        put_record(which, image, number, place as u32);
+        put_record(out, which, image, number, place as u32)?;
         number += 1;
     }
+    Ok(())
 }
 
 // The fields of a structure, by its table.
-fn put_fields(image: &[u8], at: u32, fields: Fields) {
+fn put_fields(out: &impl Print, image: &[u8], at: u32, fields: Fields) -> io::Result<()> {
     match fields {
-        Fields::Eeprom(x) => put_eeprom(x),
+        Fields::Eeprom(x) => put_eeprom(out, x),
         Fields::EeprMap(x) => {
-            put_map(x);
-            put_records(Records::Map, image, at, x.mapdata.length / 0x20);
+            let count = x.mapdata.length / 0x20;
+            put_map(out, x)?;
+            put_records(out, Records::Map, image, at, count)
         }
-        Fields::BrdInfo(x) => put_board(x),
-        Fields::PromSig(x) => put_prom_sig(x),
-        Fields::AcpiTbl(span) => put_span(b"AcpiTbl", span),
-        Fields::FpgaNfo(x) => put_fpga(x),
-        Fields::GpioDat(span) => put_records(Records::Gpio, image, at, span.length / 0x30),
-        Fields::HdCodec(span) => put_span(b"HdaCodec", span),
-        Fields::Logo(span) => put_span(b"LogoData", span),
-        Fields::MemCnfg(x) => put_memory(x),
-        Fields::MacInfo(x) => put_mac(x),
-        Fields::UCode(span) => put_span(b"UcodeData", span),
-        Fields::Video(span) => put_span(b"VideoData", span),
+        Fields::BrdInfo(x) => put_board(out, x),
+        Fields::PromSig(x) => put_prom_sig(out, x),
+        Fields::AcpiTbl(span) => put_span(out, b"AcpiTbl", span),
+        Fields::FpgaNfo(x) => put_fpga(out, x),
+        Fields::GpioDat(span) => put_records(out, Records::Gpio, image, at, span.length / 0x30),
+        Fields::HdCodec(span) => put_span(out, b"HdaCodec", span),
+        Fields::Logo(span) => put_span(out, b"LogoData", span),
+        Fields::MemCnfg(x) => put_memory(out, x),
+        Fields::MacInfo(x) => put_mac(out, x),
+        Fields::UCode(span) => put_span(out, b"UcodeData", span),
+        Fields::Video(span) => put_span(out, b"VideoData", span),
     }
 }
 
 // What a known structure says: its version and its Length, and then its fields.
-fn put_known(image: &[u8], at: u32, known: Known) {
-    put(b" ");
-    put_decimal(known.major as usize);
-    put(b".");
-    put_decimal(known.minor as usize);
-    put_number(b"Length", known.length as usize);
+fn put_known(out: &impl Print, image: &[u8], at: u32, known: Known) -> io::Result<()> {
+    put(out, b" ")?;
+    put_decimal(out, known.major as usize)?;
+    put(out, b".")?;
+    put_decimal(out, known.minor as usize)?;
+    put_number(out, b"Length", known.length as usize)?;
     let fields = known.fields;
-    put_fields(image, at, fields);
+    put_fields(out, image, at, fields)
 }
 
 // The lines of an item.
-fn put_item(image: &[u8], at: u32, shown: ShownItem) {
-    put_place(shown.place);
-    put(b" ");
-    put_signature(shown.signature);
+fn put_item(out: &impl Print, image: &[u8], at: u32, shown: ShownItem) -> io::Result<()> {
+    put_place(out, shown.place)?;
+    put(out, b" ")?;
+    put_signature(out, shown.signature)?;
     let item = shown.item;
     match item {
-        Item::Known(known) => put_known(image, at, known),
+        Item::Known(known) => put_known(out, image, at, known)?,
         Item::NotKnown => {
-            put(b" unknown");
-            put_number(b"length", shown.length);
+            put(out, b" unknown")?;
+            put_number(out, b"length", shown.length)?;
         }
     }
-    put(b"\n");
+    put(out, b"\n")
 }
 
 // The lines of all items.
-fn put_items(image: &[u8], kinds: Kinds) {
+fn put_items(out: &impl Print, image: &[u8], kinds: Kinds) -> io::Result<()> {
     let end = struct_len(image) as usize;
     let mut at = 0;
     while at < end {
-        put_item(image, at as u32, item_at(image, kinds, at as u32));
+        put_item(out, image, at as u32, item_at(image, kinds, at as u32))?;
         at = next_place(image, at as u32);
     }
+    Ok(())
 }
 
 // The listing of an image.
-pub fn list(image: &[u8]) {
+pub fn list(out: &impl Print, image: &[u8]) -> io::Result<()> {
     let kinds = Kinds::full_list();
     let judgement = judge(image, kinds);
     match judgement {
         Judged::Accepted(count) => {
-            put(b"board 1 items ");
-            put_decimal(count);
-            put_number(b"length", struct_len(image) as usize);
-            put_number(b"version", le32_at(image, 0x1C) as usize);
-            put(b"\n");
-            put_items(image, kinds);
+            put(out, b"board 1 items ")?;
+            put_decimal(out, count)?;
+            put_number(out, b"length", struct_len(image) as usize)?;
+            put_number(out, b"version", le32_at(image, 0x1C) as usize)?;
+            put(out, b"\n")?;
+            put_items(out, image, kinds)
         }
         Judged::Refused(refusal) => {
-            put_refusal(refusal);
-            put(b"\n");
+            put_refusal(out, refusal)?;
+            put(out, b"\n")
         }
     }
 }

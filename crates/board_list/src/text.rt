@@ -1,20 +1,21 @@
 // Pieces of text on standard output.
 use console::{put, put_number, put_place, put_quoted};
 use octets::{Eight, Sixteen, Span, byte_at};
+use std::io;
 
 // The beginning of the line of a field: two spaces and its name.
-pub fn put_field(word: &[u8]) {
-    put(b"\n  ");
-    put(word);
-    put(b" ");
+pub fn put_field(out: &impl Print, word: &[u8]) -> io::Result<()> {
+    put(out, b"\n  ")?;
+    put(out, word)?;
+    put(out, b" ")
 }
 
 // The line of what follows the fields, by place and length.
-pub fn put_span(word: &[u8], span: Span) {
-    put_field(word);
-    put(b"at ");
-    put_place(span.place);
-    put_number(b"length", span.length);
+pub fn put_span(out: &impl Print, word: &[u8], span: Span) -> io::Result<()> {
+    put_field(out, word)?;
+    put(out, b"at ")?;
+    put_place(out, span.place)?;
+    put_number(out, b"length", span.length)
 }
 
 // How many bytes there are without the zeros at the end.
@@ -42,28 +43,29 @@ fn before_mark(bytes: &[u8]) -> usize {
 }
 
 // The first n bytes as a quoted text.
-fn put_text(bytes: &[u8], n: usize) {
-    put(b"\"");
+fn put_text(out: &impl Print, bytes: &[u8], n: usize) -> io::Result<()> {
+    put(out, b"\"")?;
     let mut i = 0;
     while i < n {
-        put_quoted(byte_at(bytes, i));
+        put_quoted(out, byte_at(bytes, i))?;
         i += 1;
     }
-    put(b"\"");
+    put(out, b"\"")
 }
 
 // The eight bytes of a signature, without the zeros at its end.
-pub fn put_signature(signature: u64) {
+pub fn put_signature(out: &impl Print, signature: u64) -> io::Result<()> {
     let mut rest = signature;
     while 0 < rest {
         let c = (rest % 256) as u8;
         if c == b' ' {
-            put(b"\\x20");
+            put(out, b"\\x20")?;
         } else {
-            put_quoted(c);
+            put_quoted(out, c)?;
         }
         rest /= 256;
     }
+    Ok(())
 }
 
 // The sixteen bytes as an array.
@@ -75,20 +77,20 @@ fn array_of(x: Sixteen) -> [u8; 16] {
 }
 
 // The line of a name.
-pub fn put_name(word: &[u8], name: Sixteen) {
-    put_field(word);
+pub fn put_name(out: &impl Print, word: &[u8], name: Sixteen) -> io::Result<()> {
+    put_field(out, word)?;
     let bytes = array_of(name);
-    put_text(&bytes, trimmed(&bytes));
+    put_text(out, &bytes, trimmed(&bytes))
 }
 
 // A name of eight bytes.
-pub fn put_eight(x: Eight) {
+pub fn put_eight(out: &impl Print, x: Eight) -> io::Result<()> {
     let bytes = [x.b0, x.b1, x.b2, x.b3, x.b4, x.b5, x.b6, x.b7];
-    put_text(&bytes, trimmed(&bytes));
+    put_text(out, &bytes, trimmed(&bytes))
 }
 
 // A label: its text, without '$' and zeros.
-pub fn put_label(label: Sixteen) {
+pub fn put_label(out: &impl Print, label: Sixteen) -> io::Result<()> {
     let bytes = array_of(label);
-    put_text(&bytes, before_mark(&bytes));
+    put_text(out, &bytes, before_mark(&bytes))
 }

@@ -7,6 +7,7 @@ ghost use Rattle.std.specs.Prelude.{◌≤◌, length};
 
 use console::{digit, put};
 use crc::{crc8, crc32};
+use std::io;
 
 // The last digits of x, as many as out has room for.
 fn hex(out: &mut [u8], x: u32) {
@@ -19,24 +20,24 @@ fn hex(out: &mut [u8], x: u32) {
     }
 }
 
-// One line: the name of a case, a colon, and x in as many digits as out has room for.
-fn line(name: &[u8], out: &mut [u8], x: u32) {
-    hex(out, x);
-    put(name);
-    put(b": ");
-    put(out);
-    put(b"\n");
+// One line: the name of a case, a colon, and x in as many digits as there is room for.
+fn line(out: &impl Print, name: &[u8], digits: &mut [u8], x: u32) -> io::Result<()> {
+    hex(digits, x);
+    put(out, name)?;
+    put(out, b": ")?;
+    put(out, digits)?;
+    put(out, b"\n")
 }
 
 // A line with two digits, and one with eight.
-fn line8(name: &[u8], x: u8) {
-    let mut out = [0u8; 2];
-    line(name, &mut out, x as u32);
+fn line8(out: &impl Print, name: &[u8], x: u8) -> io::Result<()> {
+    let mut digits = [0u8; 2];
+    line(out, name, &mut digits, x as u32)
 }
 
-fn line32(name: &[u8], x: u32) {
-    let mut out = [0u8; 8];
-    line(name, &mut out, x);
+fn line32(out: &impl Print, name: &[u8], x: u32) -> io::Result<()> {
+    let mut digits = [0u8; 8];
+    line(out, name, &mut digits, x)
 }
 
 // The byte i is i * m, in its last eight bits.
@@ -51,47 +52,51 @@ fn pattern(s: &mut [u8], m: u8) {
 }
 
 // Texts whose check values are published.
-fn texts() {
-    line8(b"crc-8 \"123456789\"", crc8::crc8(b"123456789"));
-    line32(b"crc-32 \"123456789\"", crc32::crc32(b"123456789"));
-    line32(b"crc-32 \"\"", crc32::crc32(b""));
-    line32(b"crc-32 \"a\"", crc32::crc32(b"a"));
-    line32(b"crc-32 \"abc\"", crc32::crc32(b"abc"));
+fn texts(out: &impl Print) -> io::Result<()> {
+    line8(out, b"crc-8 \"123456789\"", crc8::crc8(b"123456789"))?;
+    line32(out, b"crc-32 \"123456789\"", crc32::crc32(b"123456789"))?;
+    line32(out, b"crc-32 \"\"", crc32::crc32(b""))?;
+    line32(out, b"crc-32 \"a\"", crc32::crc32(b"a"))?;
+    line32(out, b"crc-32 \"abc\"", crc32::crc32(b"abc"))?;
     line32(
+        out,
         b"crc-32 \"message digest\"",
         crc32::crc32(b"message digest"),
-    );
+    )
 }
 
 // Longer ones.
-fn letters() {
+fn letters(out: &impl Print) -> io::Result<()> {
     line32(
+        out,
         b"crc-32 a to z",
         crc32::crc32(b"abcdefghijklmnopqrstuvwxyz"),
-    );
+    )?;
     line32(
+        out,
         b"crc-32 \"The quick brown fox jumps over the lazy dog\"",
         crc32::crc32(b"The quick brown fox jumps over the lazy dog"),
-    );
+    )
 }
 
 // 32 bytes: zeros, ones, and 00h to 1Fh.
-fn blocks() {
-    line32(b"crc-32 32 bytes 00", crc32::crc32(&[0u8; 32]));
-    line32(b"crc-32 32 bytes FF", crc32::crc32(&[255u8; 32]));
+fn blocks(out: &impl Print) -> io::Result<()> {
+    line32(out, b"crc-32 32 bytes 00", crc32::crc32(&[0u8; 32]))?;
+    line32(out, b"crc-32 32 bytes FF", crc32::crc32(&[255u8; 32]))?;
     let mut s = [0u8; 32];
     pattern(&mut s, 1);
-    line32(b"crc-32 00 to 1F", crc32::crc32(&s));
+    line32(out, b"crc-32 00 to 1F", crc32::crc32(&s))
 }
 
 // Images, all but the check byte.
-fn images() {
-    line8(b"crc-8 56 02 04", crc8::crc8(b"\x56\x02\x04"));
-    line8(b"crc-8 56 02 06 11 0F", crc8::crc8(b"\x56\x02\x06\x11\x0F"));
+fn images(out: &impl Print) -> io::Result<()> {
+    line8(out, b"crc-8 56 02 04", crc8::crc8(b"\x56\x02\x04"))?;
+    line8(out, b"crc-8 56 02 06 11 0F", crc8::crc8(b"\x56\x02\x06\x11\x0F"))?;
     line8(
+        out,
         b"crc-8 56 02 0C 10 00 01 04 74 6F 70 B1",
         crc8::crc8(b"\x56\x02\x0C\x10\x00\x01\x04\x74\x6F\x70\xB1"),
-    );
+    )
 }
 
 // The check values of s in two parts, the first of them n bytes long.
@@ -108,25 +113,27 @@ fn two_parts32(s: &[u8], n: usize) -> u32
 }
 
 // A pattern, the byte i being i * 7: whole, in two parts, and with the bytes 14h to 17h as zero.
-fn patterns(s: &mut [u8])
+fn patterns(out: &impl Print, s: &mut [u8]) -> io::Result<()>
     requires { 333 ≤ length s.old }
 {
     pattern(s, 7);
-    line8(b"crc-8 pattern", crc8::crc8(s));
-    line8(b"crc-8 pattern, in two parts", two_parts8(s, 333));
-    line32(b"crc-32 pattern", crc32::crc32(s));
-    line32(b"crc-32 pattern, in two parts", two_parts32(s, 333));
+    line8(out, b"crc-8 pattern", crc8::crc8(s))?;
+    line8(out, b"crc-8 pattern, in two parts", two_parts8(s, 333))?;
+    line32(out, b"crc-32 pattern", crc32::crc32(s))?;
+    line32(out, b"crc-32 pattern, in two parts", two_parts32(s, 333))?;
     line32(
+        out,
         b"crc-32 pattern, 14h to 17h as zero",
         crc32::crc32_field_as_zero(s),
-    );
+    )
 }
 
-fn main() {
-    texts();
-    letters();
-    blocks();
-    images();
+fn main(rt: HostRuntime) -> io::Result<()> {
+    let out = rt.stdout();
+    texts(&out)?;
+    letters(&out)?;
+    blocks(&out)?;
+    images(&out)?;
     let mut s = [0u8; 1000];
-    patterns(&mut s);
+    patterns(&out, &mut s)
 }

@@ -5,13 +5,13 @@
 
 ghost use Rattle.std.specs.Prelude.{◌≤◌, length};
 
-use console::{put, put_decimal};
+use console::{put, put_decimal, read_full};
 use kinds::Kinds;
-use libc::STDIN_FILENO;
 use octets::{byte_from, le16_at};
 use text::put_refusal;
 use tiny_rules::judge;
 use verdict::Judged;
+use std::io;
 
 mod items;
 mod names;
@@ -20,27 +20,27 @@ mod text;
 
 // All answers for one image: the judge's, every item up to the count, every string up to the string count and one past it, items and strings at numbers far
 // past these, and the name.
-fn put_answers(image: &[u8], kinds: Kinds) {
+fn put_answers(out: &impl Print, image: &[u8], kinds: Kinds) -> io::Result<()> {
     let judgement = judge(image, kinds);
     match judgement {
         Judged::Accepted(count) => {
-            put(b"accepted ");
-            put_decimal(count);
-            put(b"\n");
-            items::put_items(image, kinds, count);
+            put(out, b"accepted ")?;
+            put_decimal(out, count)?;
+            put(out, b"\n")?;
+            items::put_items(out, image, kinds, count)?;
         }
         Judged::Refused(refusal) => {
-            put_refusal(refusal);
-            put(b"\n");
-            items::put_items(image, kinds, 0);
+            put_refusal(out, refusal)?;
+            put(out, b"\n")?;
+            items::put_items(out, image, kinds, 0)?;
         }
     }
-    strings::put_strings(image, kinds);
-    names::put_names(image, kinds);
+    strings::put_strings(out, image, kinds)?;
+    names::put_names(out, image, kinds)
 }
 
 // The first n bytes of the input: for each image its list, as eight bits from 01 on, its length, two bytes, and its bytes.
-fn put_all(input: &[u8], n: usize)
+fn put_all(out: &impl Print, input: &[u8], n: usize) -> io::Result<()>
     requires { n ≤ length input.now }
 {
     let mut at = 0;
@@ -48,18 +48,19 @@ fn put_all(input: &[u8], n: usize)
         let list = byte_from(input, at, 0);
         let end = at + 3 + le16_at(input, at + 1) as usize;
         if n < end {
-            return;
+            return Ok(());
         }
-        put(b"list ");
-        put_decimal(list as usize);
-        put(b"\n");
-        put_answers(&input[at + 3..end], Kinds::from_bits(list as u32));
+        put(out, b"list ")?;
+        put_decimal(out, list as usize)?;
+        put(out, b"\n")?;
+        put_answers(out, &input[at + 3..end], Kinds::from_bits(list as u32))?;
         at = end;
     }
+    Ok(())
 }
 
-fn main() {
-    let mut input = io::large_buffer();
-    let n = io::read_full(STDIN_FILENO, &mut input);
-    put_all(&input, n);
+fn main(rt: HostRuntime) -> io::Result<()> {
+    let mut input = [0u8; 65536];
+    let n = read_full(&mut rt.stdin(), &mut input);
+    put_all(&rt.stdout(), &input, n)
 }

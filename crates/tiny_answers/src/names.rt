@@ -5,38 +5,39 @@ use super::text::put_refusal;
 use console::{put, put_bytes, put_decimal};
 use kinds::Kinds;
 use tiny::{NameAnswer, name};
+use std::io;
 
-fn put_answer(answer: NameAnswer) {
+fn put_answer(out: &impl Print, answer: NameAnswer) -> io::Result<()> {
     match answer {
         NameAnswer::Length(n) => {
-            put(b"length ");
-            put_decimal(n);
+            put(out, b"length ")?;
+            put_decimal(out, n)
         }
-        NameAnswer::Refused(refusal) => put_refusal(refusal),
+        NameAnswer::Refused(refusal) => put_refusal(out, refusal),
     }
 }
 
 // The name with the first `size` bytes of a block lent, and what the block then holds.
-fn put_name(image: &[u8], kinds: Kinds, size: usize, block: &mut [u8])
+fn put_name(out: &impl Print, image: &[u8], kinds: Kinds, size: usize, block: &mut [u8]) -> io::Result<()>
     requires { size ≤ length block.old }
 {
-    put(b"name ");
-    put_decimal(size);
-    put(b" ");
-    put_answer(name(image, kinds, &mut block[..size]));
-    put(b" ");
-    put_bytes(block);
-    put(b"\n");
+    put(out, b"name ")?;
+    put_decimal(out, size)?;
+    put(out, b" ")?;
+    put_answer(out, name(image, kinds, &mut block[..size]))?;
+    put(out, b" ")?;
+    put_bytes(out, block)?;
+    put(out, b"\n")
 }
 
 // Each time with a block of AAh.
-pub fn put_names(image: &[u8], kinds: Kinds) {
+pub fn put_names(out: &impl Print, image: &[u8], kinds: Kinds) -> io::Result<()> {
     let mut none = [0xAAu8; 8];
-    put_name(image, kinds, 0, &mut none);
+    put_name(out, image, kinds, 0, &mut none)?;
     let mut three = [0xAAu8; 8];
-    put_name(image, kinds, 3, &mut three);
+    put_name(out, image, kinds, 3, &mut three)?;
     let mut four = [0xAAu8; 8];
-    put_name(image, kinds, 4, &mut four);
+    put_name(out, image, kinds, 4, &mut four)?;
     let mut most = [0xAAu8; 255];
-    put_name(image, kinds, 255, &mut most);
+    put_name(out, image, kinds, 255, &mut most)
 }

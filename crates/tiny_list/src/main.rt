@@ -2,22 +2,22 @@
 
 #![tactic(auto)]
 
-use console::{at_end, complain};
-use libc::STDIN_FILENO;
+use console::{at_end, complain, read_full};
+use std::io;
 
 mod fields;
 mod lines;
 mod text;
 
 // A tiny image has at most 255 bytes, and what is lent past them is not looked at: so 256 bytes are read, and no more.
-fn main() {
+fn main(rt: HostRuntime) -> io::Result<()> {
+    let mut stdin = rt.stdin();
     let mut image = [0u8; 256];
-    let n = io::read_full(STDIN_FILENO, &mut image);
+    let n = read_full(&mut stdin, &mut image);
     if n < 256 {
-        if !at_end() {
-            complain(b"tiny_list: standard input cannot be read\n");
-            return;
+        if !at_end(&mut stdin) {
+            return complain(&rt.stderr(), b"tiny_list: standard input cannot be read\n");
         }
     }
-    lines::list(&image[..n]);
+    lines::list(&rt.stdout(), &image[..n])
 }
