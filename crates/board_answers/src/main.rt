@@ -11,9 +11,9 @@ use items::put_items;
 use kinds::Kinds;
 use octets::le32_at;
 use records::{Which, put_records};
+use std::io;
 use text::put_refusal;
 use verdict::Judged;
-use std::io;
 
 mod items;
 mod records;

@@ -10,7 +10,7 @@ use kinds::Kinds;
 use std::io;
 
 // Which records: those of the map, or of the GPIO data of an item.
-#[derive(Drop)]
+#[derive(Clone, Copy)]
 pub enum Which {
     Map,
     Gpio(usize),
@@ -54,7 +54,13 @@ fn put_map_record(out: &impl Print, image: &[u8], kinds: Kinds, number: usize) -
 }
 
 // The answer for a record of an item's GPIO data; whether there is one.
-fn put_gpio_record(out: &impl Print, image: &[u8], kinds: Kinds, item: usize, number: usize) -> io::Result<bool> {
+fn put_gpio_record(
+    out: &impl Print,
+    image: &[u8],
+    kinds: Kinds,
+    item: usize,
+    number: usize,
+) -> io::Result<bool> {
     put(out, b"gpio ")?;
     put_decimal(out, item)?;
     put(out, b" ")?;
@@ -74,7 +80,13 @@ fn put_gpio_record(out: &impl Print, image: &[u8], kinds: Kinds, item: usize, nu
 }
 
 // The answer for a record; whether there is one.
-fn put_record(out: &impl Print, image: &[u8], kinds: Kinds, which: Which, number: usize) -> io::Result<bool> {
+fn put_record(
+    out: &impl Print,
+    image: &[u8],
+    kinds: Kinds,
+    which: Which,
+    number: usize,
+) -> io::Result<bool> {
     match which {
         Which::Map => put_map_record(out, image, kinds, number),
         Which::Gpio(item) => put_gpio_record(out, image, kinds, item, number),

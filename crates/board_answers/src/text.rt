@@ -1,8 +1,8 @@
 // Fields and refusals on standard output.
 use console::{put, put_bytes, put_decimal, put_number};
 use octets::{Sixteen, Span};
-use verdict::Refusal;
 use std::io;
+use verdict::Refusal;
 
 // A word and bytes.
 pub fn put_run(out: &impl Print, word: &[u8], bytes: &[u8]) -> io::Result<()> {

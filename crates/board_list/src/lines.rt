@@ -11,11 +11,17 @@ use chain::Found;
 use console::{put, put_decimal, put_number, put_place, put_refusal};
 use kinds::Kinds;
 use octets::le32_at;
-use verdict::Judged;
 use std::io;
+use verdict::Judged;
 
 // The line of a record.
-fn put_record(out: &impl Print, which: Records, image: &[u8], number: usize, place: u32) -> io::Result<()> {
+fn put_record(
+    out: &impl Print,
+    which: Records,
+    image: &[u8],
+    number: usize,
+    place: u32,
+) -> io::Result<()> {
     match which {
         Records::Map => put_map_record(out, number, map_record_at(image, place)),
         Records::Gpio => put_gpio_record(out, number, gpio_record_at(image, place)),
@@ -23,7 +29,13 @@ fn put_record(out: &impl Print, which: Records, image: &[u8], number: usize, pla
 }
 
 // The records of the structure at a place: how many, and a line for each. (All of an accepted image lie below 65,536.)
-fn put_records(out: &impl Print, which: Records, image: &[u8], at: u32, count: usize) -> io::Result<()> {
+fn put_records(
+    out: &impl Print,
+    which: Records,
+    image: &[u8],
+    at: u32,
+    count: usize,
+) -> io::Result<()> {
     put_decimal_field(out, b"records", count)?;
     let mut number = 0;
     while number < count {

@@ -16,7 +16,13 @@ mod fields;
 const MOST: usize = 65600;
 
 // Has an image written to the buffer, and prints the answer with what the buffer then holds.
-fn put_image(out: &impl Print, fields: Fields, records: &[u8], further: &[u8], buffer: &mut [u8]) -> io::Result<()> {
+fn put_image(
+    out: &impl Print,
+    fields: Fields,
+    records: &[u8],
+    further: &[u8],
+    buffer: &mut [u8],
+) -> io::Result<()> {
     let header = fields.header;
     let answer = write(
         header,
@@ -81,7 +87,10 @@ fn main(rt: HostRuntime) -> io::Result<()> {
     let mut input = [0u8; 262144];
     let n = read_full(&mut stdin, &mut input);
     if !at_end(&mut stdin) {
-        return complain(&rt.stderr(), b"board_write: standard input is over 262,144 bytes or cannot be read\n");
+        return complain(
+            &rt.stderr(),
+            b"board_write: standard input is over 262,144 bytes or cannot be read\n",
+        );
     }
     serve_all(&rt.stdout(), &input[..n])
 }

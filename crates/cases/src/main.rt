@@ -91,7 +91,11 @@ fn blocks(out: &impl Print) -> io::Result<()> {
 // Images, all but the check byte.
 fn images(out: &impl Print) -> io::Result<()> {
     line8(out, b"crc-8 56 02 04", crc8::crc8(b"\x56\x02\x04"))?;
-    line8(out, b"crc-8 56 02 06 11 0F", crc8::crc8(b"\x56\x02\x06\x11\x0F"))?;
+    line8(
+        out,
+        b"crc-8 56 02 06 11 0F",
+        crc8::crc8(b"\x56\x02\x06\x11\x0F"),
+    )?;
     line8(
         out,
         b"crc-8 56 02 0C 10 00 01 04 74 6F 70 B1",

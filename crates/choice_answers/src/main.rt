@@ -9,8 +9,8 @@ use choice::{ChoiceAnswer, choice, chosen};
 use console::{put, put_decimal, put_spaced, read_full};
 use kinds::Kinds;
 use octets::le32_at;
-use verdict::Refusal;
 use std::io;
+use verdict::Refusal;
 
 // A word and a number, as a line.
 fn put_length(out: &impl Print, word: &[u8], n: usize) -> io::Result<()> {
@@ -36,7 +36,12 @@ fn put_answer(out: &impl Print, answer: ChoiceAnswer) -> io::Result<()> {
 }
 
 // The choice between two images, and the part that is handed back.
-fn put_choice<'a>(out: &impl Print, firmware: &'a [u8], eeprom: &'a [u8], kinds: Kinds) -> io::Result<()> {
+fn put_choice<'a>(
+    out: &impl Print,
+    firmware: &'a [u8],
+    eeprom: &'a [u8],
+    kinds: Kinds,
+) -> io::Result<()> {
     let answer = choice(firmware, eeprom, kinds);
     put_answer(out, answer)?;
     put(out, b"part")?;

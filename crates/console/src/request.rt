@@ -7,7 +7,7 @@ ghost use Rattle.console.specs.Request.{before, first_of, semicolons_in, behind,
 use octets::{byte_at, byte_from};
 
 // Whether a part could be read; and the number, or how many bytes there are: 0 if it could not.
-#[derive(Drop)]
+#[derive(Clone, Copy)]
 pub struct Part {
     pub good: bool,
     pub count: usize,

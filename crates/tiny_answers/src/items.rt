@@ -5,9 +5,9 @@ use console::{put, put_decimal, put_hex};
 use kinds::Kinds;
 use octets::Six;
 use reader::{Format, StepAnswer, step_numbered};
+use std::io;
 use tiny::{Identity, Item, ItemAnswer, PoolShown, ShownItem, item_numbered, major_text};
 use tiny_layout::Reference;
-use std::io;
 
 fn put_pool(out: &impl Print, shown: PoolShown) -> io::Result<()> {
     put(out, b"strings ")?;

@@ -8,10 +8,10 @@ ghost use Rattle.std.specs.Prelude.{◌≤◌, length};
 use console::{put, put_decimal, read_full};
 use kinds::Kinds;
 use octets::{byte_from, le16_at};
+use std::io;
 use text::put_refusal;
 use tiny_rules::judge;
 use verdict::Judged;
-use std::io;
 
 mod items;
 mod names;

@@ -4,8 +4,8 @@ ghost use Rattle.std.specs.Prelude.{◌≤◌, length};
 use super::text::put_refusal;
 use console::{put, put_bytes, put_decimal};
 use kinds::Kinds;
-use tiny::{NameAnswer, name};
 use std::io;
+use tiny::{NameAnswer, name};
 
 fn put_answer(out: &impl Print, answer: NameAnswer) -> io::Result<()> {
     match answer {
@@ -18,7 +18,13 @@ fn put_answer(out: &impl Print, answer: NameAnswer) -> io::Result<()> {
 }
 
 // The name with the first `size` bytes of a block lent, and what the block then holds.
-fn put_name(out: &impl Print, image: &[u8], kinds: Kinds, size: usize, block: &mut [u8]) -> io::Result<()>
+fn put_name(
+    out: &impl Print,
+    image: &[u8],
+    kinds: Kinds,
+    size: usize,
+    block: &mut [u8],
+) -> io::Result<()>
     requires { size ≤ length block.old }
 {
     put(out, b"name ")?;

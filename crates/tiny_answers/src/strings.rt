@@ -3,11 +3,11 @@ use super::text::{put_refusal, put_text};
 use console::far::{FAR, LAST};
 use console::{put, put_decimal};
 use kinds::Kinds;
+use std::io;
 use tiny::{StringAnswer, string_numbered};
 use tiny_layout::string_count;
 use tiny_rules::{judge, pool_of};
 use verdict::Judged;
-use std::io;
 
 fn put_string(out: &impl Print, image: &[u8], kinds: Kinds, number: usize) -> io::Result<()> {
     put(out, b"string ")?;

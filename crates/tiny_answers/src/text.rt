@@ -1,8 +1,8 @@
 // Texts and refusals on standard output.
 use console::{put, put_decimal, put_hex};
 use octets::{Span, byte_from};
-use verdict::Refusal;
 use std::io;
+use verdict::Refusal;
 
 // The bytes of a text, the end mark cleared.
 pub fn put_text(out: &impl Print, image: &[u8], span: Span) -> io::Result<()> {

@@ -1,9 +1,9 @@
 // The fields of an item, as text.
 use super::text::{put_text, put_two};
 use console::{put, put_character, put_quoted};
+use std::io;
 use tiny::{Identity, major_text};
 use tiny_layout::Reference;
-use std::io;
 
 // A reference: its text, or that it is undecodable.
 pub fn put_reference(out: &impl Print, image: &[u8], reference: Reference) -> io::Result<()> {

@@ -3,11 +3,11 @@ use super::fields::{put_batch, put_identity, put_reference};
 use super::text::put_text;
 use console::{put, put_address, put_decimal, put_hex, put_refusal};
 use kinds::Kinds;
+use std::io;
 use tiny::{Item, PoolShown, ShownItem, item_at};
 use tiny_layout::{Pool, check_place, item_size, string_at};
 use tiny_rules::{judge, pool_of};
 use verdict::Judged;
-use std::io;
 
 // The strings of a pool, a line for each.
 fn put_strings(out: &impl Print, image: &[u8], pool: Pool) -> io::Result<()> {
@@ -33,7 +33,13 @@ fn put_pool(out: &impl Print, image: &[u8], pool: Pool, shown: PoolShown) -> io:
 }
 
 // What an item says.
-fn put_fields(out: &impl Print, image: &[u8], pool: Pool, length: usize, item: Item) -> io::Result<()> {
+fn put_fields(
+    out: &impl Print,
+    image: &[u8],
+    pool: Pool,
+    length: usize,
+    item: Item,
+) -> io::Result<()> {
     match item {
         Item::Pool(shown) => put_pool(out, image, pool, shown),
         Item::Serial(reference) => {

@@ -6,14 +6,20 @@
 use console::request::{bytes_of, first_of, number_of, semicolons};
 use console::written::put_written;
 use console::{at_end, complain, put, read_full};
-use tiny_writer::write;
 use std::io;
+use tiny_writer::write;
 
 // The most bytes that a part may have, and the longest buffer.
 const MOST: usize = 1024;
 
 // Has an image written to the buffer, and prints the answer with what the buffer then holds.
-fn put_image(out: &impl Print, items: &[u8], pool: &[u8], pooled: bool, buffer: &mut [u8]) -> io::Result<()> {
+fn put_image(
+    out: &impl Print,
+    items: &[u8],
+    pool: &[u8],
+    pooled: bool,
+    buffer: &mut [u8],
+) -> io::Result<()> {
     let answer = write(items, pool, pooled, buffer);
     put_written(out, answer, buffer)
 }
@@ -69,7 +75,10 @@ fn main(rt: HostRuntime) -> io::Result<()> {
     let mut input = [0u8; 65536];
     let n = read_full(&mut stdin, &mut input);
     if !at_end(&mut stdin) {
-        return complain(&rt.stderr(), b"tiny_write: standard input is over 65,536 bytes or cannot be read\n");
+        return complain(
+            &rt.stderr(),
+            b"tiny_write: standard input is over 65,536 bytes or cannot be read\n",
+        );
     }
     serve_all(&rt.stdout(), &input[..n])
 }
