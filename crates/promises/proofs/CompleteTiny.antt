@@ -24,9 +24,9 @@ use Rattle.tiny_layout.specs.Pool as layout
 use Rattle.verdict.specs.declared.Judged.TheVariants.{Accepted}
 
 -- ---- an item's values in the format's own terms, and back
-abbrev tag-of : Kind → ℕ
-tag-of (Tag tag) = tag
-tag-of (Signature g) = g
+abbrev tag_of : Kind → ℕ
+tag_of (Tag tag) = tag
+tag_of (Signature g) = g
 
 abbrev fields_of : reader.FieldValues → FieldValues
 fields_of (reader.tiny-fields x) = x
@@ -34,7 +34,7 @@ fields_of (reader.board-fields l) = not_known
 fields_of reader.not_known = not_known
 
 abbrev back : reader.ItemValues → ItemValues
-back v = record { kind = tag-of v.kind; place = v.place; length = v.length; fields = fields_of v.fields }
+back v = record { kind = tag_of v.kind; place = v.place; length = v.length; fields = fields_of v.fields }
 
 fields-back : (x : FieldValues) → fields_of (tiny_fields x) ≡ x
 fields-back (pool n p l) = refl
