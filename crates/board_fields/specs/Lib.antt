@@ -1,4 +1,4 @@
--- The definitions that the contracts cite, and laws that other crates may cite. Assumes nothing.
+-- The definitions that the contracts cite. Assumes nothing.
 pub mod Heads
 pub mod Hash
 pub mod Map

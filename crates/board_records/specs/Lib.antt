@@ -1,4 +1,4 @@
--- The definitions that the contracts cite, an example of them, and laws that other crates may cite. Assumes nothing.
+-- The definitions that the contracts cite, and an example of them. Assumes nothing.
 pub mod Records
 pub mod Tests
 pub mod Examples

@@ -1,4 +1,4 @@
--- The definitions that the contracts cite, examples of them, and laws that other crates may cite. Assumes nothing.
+-- The definitions that the contracts cite, and examples of them. Assumes nothing.
 pub mod Rules
 pub mod Judged
 pub mod Broken

@@ -1,3 +1,3 @@
--- The definitions that the contracts cite, examples of them, and laws that other crates may cite. Assumes nothing.
+-- The definitions that the contracts cite, and examples of them. Assumes nothing.
 pub mod Choice
 pub mod Examples

@@ -1,4 +1,4 @@
--- The definitions that the contracts cite, examples of them, and their laws. Assumes nothing.
+-- The definitions that the contracts cite, and examples of them. Assumes nothing.
 pub mod Counts
 pub mod Digit
 pub mod Request

@@ -1,4 +1,4 @@
--- The definitions that the contracts cite, the paper's cases, examples, and laws that other crates may cite. Assumes nothing.
+-- The definitions that the contracts cite, the paper's cases, and examples. Assumes nothing.
 pub mod Major
 pub mod Items
 pub mod Answers
