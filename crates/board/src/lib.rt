@@ -21,14 +21,14 @@ use records::gpio_record_of;
 pub use records::{gpio_record_at, map_record_at};
 
 // An offset in the image, and a bus address: counted apart.
-#[derive(Drop)]
+#[derive(Clone, Copy)]
 pub struct ImageOffset(pub u32);
 
-#[derive(Drop)]
+#[derive(Clone, Copy)]
 pub struct BusAddress(pub u8);
 
 // The fields of `$Eeprom$`. Crc32 is a check number and never shown.
-#[derive(Drop)]
+#[derive(Clone, Copy)]
 pub struct EepromFields {
     pub structlen: u32,
     pub crclength: u32,
@@ -36,7 +36,7 @@ pub struct EepromFields {
 }
 
 // The fields of `$EeprMap`, and where its records lie.
-#[derive(Drop)]
+#[derive(Clone, Copy)]
 pub struct EeprMapFields {
     pub partlabel: Sixteen,
     pub blklength: u32,
@@ -49,7 +49,7 @@ pub struct EeprMapFields {
 }
 
 // The fields of `$BrdInfo`.
-#[derive(Drop)]
+#[derive(Clone, Copy)]
 pub struct BrdInfoFields {
     pub manuname: Sixteen,
     pub brdname: Sixteen,
@@ -61,14 +61,14 @@ pub struct BrdInfoFields {
 }
 
 // The field of `$PromSig`, and where the hash lies.
-#[derive(Drop)]
+#[derive(Clone, Copy)]
 pub struct PromSigFields {
     pub hashtype: u16,
     pub eepromsig: Span,
 }
 
 // The fields of `$FPGAnfo`, and where the bitstream lies.
-#[derive(Drop)]
+#[derive(Clone, Copy)]
 pub struct FpgaNfoFields {
     pub datatype: u8,
     pub devnum: u8,
@@ -77,14 +77,14 @@ pub struct FpgaNfoFields {
 }
 
 // The field of `$MemCnfg`, and where the memory data lie.
-#[derive(Drop)]
+#[derive(Clone, Copy)]
 pub struct MemCnfgFields {
     pub spdslot: u16,
     pub memdata: Span,
 }
 
 // The fields of `$MacInfo`, and where what else it holds lies.
-#[derive(Drop)]
+#[derive(Clone, Copy)]
 pub struct MacInfoFields {
     pub nicid: Eight,
     pub macaddr: Six,
@@ -93,7 +93,7 @@ pub struct MacInfoFields {
 }
 
 // The fields of a structure by its table. Tables without any show what follows their reserved bytes, by place and length.
-#[derive(Drop)]
+#[derive(Clone, Copy)]
 pub enum Fields {
     Eeprom(EepromFields),
     EeprMap(EeprMapFields),
@@ -111,7 +111,7 @@ pub enum Fields {
 }
 
 // A known structure: VerMajor, VerMinor and Length of its head, and its fields.
-#[derive(Drop)]
+#[derive(Clone, Copy)]
 pub struct Known {
     pub major: u16,
     pub minor: u16,
@@ -120,14 +120,14 @@ pub struct Known {
 }
 
 // What an item shows beside its signature, place and length.
-#[derive(Drop)]
+#[derive(Clone, Copy)]
 pub enum Item {
     Known(Known),
     NotKnown,
 }
 
 // Any item: its signature (the eight bytes as the number they spell, the first lowest), place and data length; and, where it is known, its fields.
-#[derive(Drop)]
+#[derive(Clone, Copy)]
 pub struct ShownItem {
     pub signature: u64,
     pub place: usize,
@@ -136,14 +136,14 @@ pub struct ShownItem {
 }
 
 // What is answered for an item by its number.
-#[derive(Drop)]
+#[derive(Clone, Copy)]
 pub enum ItemAnswer {
     Shown(ShownItem),
     Refused(Refusal),
 }
 
 // A record of the map.
-#[derive(Drop)]
+#[derive(Clone, Copy)]
 pub struct MapRecord {
     pub maplabel: Sixteen,
     pub length: u32,
@@ -152,14 +152,14 @@ pub struct MapRecord {
 }
 
 // What is answered for a record of the map by its number.
-#[derive(Drop)]
+#[derive(Clone, Copy)]
 pub enum MapRecordAnswer {
     Shown(MapRecord),
     Refused(Refusal),
 }
 
 // A record of GPIO data.
-#[derive(Drop)]
+#[derive(Clone, Copy)]
 pub struct GpioRecord {
     pub gpiolabel: Sixteen,
     pub length: u32,
@@ -171,7 +171,7 @@ pub struct GpioRecord {
 }
 
 // What is answered for a record of GPIO data by its number.
-#[derive(Drop)]
+#[derive(Clone, Copy)]
 pub enum GpioRecordAnswer {
     Shown(GpioRecord),
     Refused(Refusal),

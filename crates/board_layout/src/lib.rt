@@ -35,7 +35,7 @@ pub enum Shape {
 }
 
 // The generic head of a structure.
-#[derive(Drop)]
+#[derive(Clone, Copy)]
 pub struct Head {
     pub signature: u64,
     pub major: u16,
@@ -44,7 +44,7 @@ pub struct Head {
 }
 
 // The two headers: one that ends before its Reserved field, and one that covers it.
-#[derive(Drop)]
+#[derive(Clone, Copy)]
 pub enum Header {
     Short,
     Long,

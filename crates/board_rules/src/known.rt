@@ -9,7 +9,7 @@ use chain::{Found, or_else};
 use kinds::Kinds;
 
 // What was found in the known structures: the first place of each rule.
-#[derive(Drop)]
+#[derive(Clone, Copy)]
 pub struct Contents {
     pub reserved: Found,
     pub inside: Found,

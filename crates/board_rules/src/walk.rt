@@ -12,7 +12,7 @@ use kinds::{BRD_INFO, EEPR_MAP, EEPROM, Kinds, PROM_SIG};
 use octets::{first_nonzero, le64_at};
 
 // What a walk has found: the first place of each rule, the signature structure, from where on no structure is known, and how many structures there are.
-#[derive(Drop)]
+#[derive(Clone, Copy)]
 pub struct Findings {
     pub misplaced: Found,
     pub gap: Found,

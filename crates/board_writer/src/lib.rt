@@ -25,7 +25,7 @@ use verdict::{Judged, WriteAnswer, write_refused};
 mod structures;
 
 // The map's fields that are given; its records are given as a run.
-#[derive(Drop)]
+#[derive(Clone, Copy)]
 pub struct MapFields {
     pub partlabel: Sixteen,
     pub blklength: u32,

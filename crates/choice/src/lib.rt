@@ -14,7 +14,7 @@ use octets::{byte_at, le32_at, same_run};
 use verdict::{Judged, Refusal};
 
 // Which image is chosen, with its length; or firmware's refusal.
-#[derive(Drop)]
+#[derive(Clone, Copy)]
 pub enum ChoiceAnswer {
     Firmware(usize),
     Eeprom(usize),

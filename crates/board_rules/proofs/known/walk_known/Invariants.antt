@@ -1,0 +1,11 @@
+-- `known::walk_known` meets its contract. The loop's invariant: each finding so far, or else what its rule finds from `at` on, is what the rule finds.
+-- Assumes nothing.
+use Rattle.std.proofs.Common.{◌-◌}
+use Rattle.board_rules.proofs.laws.Findings.{Into}
+use Rattle.board_rules.proofs.known.walk_known.Given as goal
+
+abbrev pub invariant-loop-at : goal.invariant-loop-at
+invariant-loop-at l = Into l.kinds l.image l.at l.found
+
+abbrev pub decreases-loop-at : goal.decreases-loop-at
+decreases-loop-at l = l.end - l.at
