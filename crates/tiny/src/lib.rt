@@ -21,14 +21,14 @@ mod serial;
 pub use fields::{item_at, major_text};
 
 // Two characters.
-#[derive(Drop)]
+#[derive(Clone, Copy)]
 pub struct Two {
     pub first: u8,
     pub second: u8,
 }
 
 // What 61, 62, 80 and 81 say of a product.
-#[derive(Drop)]
+#[derive(Clone, Copy)]
 pub struct Identity {
     pub serial: Reference,
     pub part: Reference,
@@ -38,21 +38,21 @@ pub struct Identity {
 }
 
 // 80 and 81: and its batch.
-#[derive(Drop)]
+#[derive(Clone, Copy)]
 pub struct Batched {
     pub identity: Identity,
     pub batch: u16,
 }
 
 // A pool: how many strings it has, and where its data lie.
-#[derive(Drop)]
+#[derive(Clone, Copy)]
 pub struct PoolShown {
     pub count: usize,
     pub bytes: Span,
 }
 
 // What an item shows beside its tag, place and length: the fields of a known one.
-#[derive(Drop)]
+#[derive(Clone, Copy)]
 pub enum Item {
     Pool(PoolShown),
     Serial(Reference),
@@ -64,7 +64,7 @@ pub enum Item {
 }
 
 // Any item: its tag, place and data length; and, where it is known, its fields.
-#[derive(Drop)]
+#[derive(Clone, Copy)]
 pub struct ShownItem {
     pub tag: u8,
     pub place: usize,
@@ -73,14 +73,14 @@ pub struct ShownItem {
 }
 
 // What is answered for an item by its number.
-#[derive(Drop)]
+#[derive(Clone, Copy)]
 pub enum ItemAnswer {
     Shown(ShownItem),
     Refused(Refusal),
 }
 
 // What is answered for a string by its number: where its text lies.
-#[derive(Drop)]
+#[derive(Clone, Copy)]
 pub enum StringAnswer {
     Text(Span),
     Undecodable,
@@ -88,7 +88,7 @@ pub enum StringAnswer {
 }
 
 // What is answered for the name: its length.
-#[derive(Drop)]
+#[derive(Clone, Copy)]
 pub enum NameAnswer {
     Length(usize),
     Refused(Refusal),

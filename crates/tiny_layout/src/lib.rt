@@ -17,7 +17,7 @@ use chain::Found;
 use octets::{Span, byte_at, byte_from};
 
 // What the data of an item are: a row of the paper's table.
-#[derive(Drop)]
+#[derive(Clone, Copy)]
 pub enum Shape {
     Pool,
     Serial,
@@ -36,7 +36,7 @@ pub struct Pool {
 }
 
 // A reference to a string: its text, by where it lies in the image, or undecodable.
-#[derive(Drop)]
+#[derive(Clone, Copy)]
 pub enum Reference {
     Text(Span),
     Undecodable,

@@ -24,7 +24,7 @@ pub struct Head {
 }
 
 // What a walk has found: the first place of each rule, the listed pool, a number above every index of a known item, and how many items there are.
-#[derive(Drop)]
+#[derive(Clone, Copy)]
 pub struct Findings {
     pub passing: Found,
     pub reserved: Found,
