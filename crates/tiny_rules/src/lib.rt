@@ -112,13 +112,16 @@ fn judge_items(image: &[u8], kinds: Kinds) -> Judged
         return refused(5, p);
     }
     let found = walk_all(image, kinds);
-    if let Found::At(p) = found.passing {
+    let passing = found.passing;
+    let reserved = found.reserved;
+    let early = found.early;
+    if let Found::At(p) = passing {
         return refused(6, p);
     }
-    if let Found::At(p) = found.reserved {
+    if let Found::At(p) = reserved {
         return refused(7, p);
     }
-    if let Found::At(p) = found.early {
+    if let Found::At(p) = early {
         return refused(8, p);
     }
     judge_data(image, kinds, found)

@@ -7,7 +7,7 @@ use octets::{byte_at, byte_from};
 use tiny_layout::{data_length, head_size};
 
 // The number of the first bad item; or, without one, how many bytes the items take in an image.
-#[derive(Drop)]
+#[derive(Clone, Copy)]
 pub enum Measured {
     Bad(usize),
     Bytes(usize),
