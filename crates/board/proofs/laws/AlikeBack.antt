@@ -1,6 +1,6 @@
 -- What is not shown is the same in both of two images that differ in nothing else: the premise, worded by the first one's structures, holds of the second's too.
 -- Assumes nothing.
-use Rattle.std.specs.Prelude.{ℕ, List, ◌≡◌, length}
+use Rattle.std.specs.Prelude.{ℕ, List, ◌≡◌}
 use Rattle.std.proofs.Common.{inl, inr, sym, ap, ◌∙◌, arith}
 use Rattle.board.specs.NotShown.{Raised, InRecord, NotShown, check, unknown, reserved, record_reserved, following}
 use Rattle.board_layout.specs.Layout.{shape_at}

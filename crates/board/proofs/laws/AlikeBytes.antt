@@ -1,6 +1,6 @@
 -- Two images of one length that differ in no byte that is shown, where the first is accepted: each byte of a head, of a field and of a record's field is shown,
 -- Crc32 left out, whatever structure it might lie in; so it agrees. Assumes nothing.
-use Rattle.std.specs.Prelude.{ℕ, ◌+◌, ◌≤◌, ◌<◌, true, false, ◌⊎◌, ◌≡◌, length}
+use Rattle.std.specs.Prelude.{ℕ, ◌+◌, ◌≤◌, ◌<◌, true, false, ◌⊎◌, ◌≡◌}
 use Rattle.std.proofs.lemmas.Bool.{false≢true}
 use mathlib.Core.List.{List}
 use Rattle.std.proofs.Math.Logic.{inl, inr}
