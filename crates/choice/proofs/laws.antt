@@ -5,3 +5,4 @@ pub mod Exactly
 pub mod Parts
 pub mod Lent
 pub mod Said
+pub mod Examples
