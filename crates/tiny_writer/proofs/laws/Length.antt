@@ -2,7 +2,6 @@
 use Rattle.std.specs.Prelude.{ℕ, ◌+◌, Bool, true, false, ◌≡◌, refl, length}
 use Rattle.std.proofs.Common.{true≢false, sym, ap, ap₂, ◌∙◌, arith, length-append}
 use mathlib.Core.List.{List, [], ◌∷◌, ◌++◌, map, flatten, append-nil}
-use Rattle.octets.specs.Bytes.{run}
 use Rattle.octets.proofs.laws.Cut.{flatten-append}
 use Rattle.tiny_writer.specs.Building.{laid_from, pool_bytes}
 use Rattle.tiny_writer.specs.Image.{Parts, pool_given, parts, pool_items, body, image_length, unchecked}
