@@ -1,5 +1,5 @@
 -- `judge` meets its contract: the arm of each format, and each element of a slice of u8 is below 256. Assumes nothing.
-use Rattle.std.proofs.Common.{◌≡◌, ℕ, ◌+◌, ◌-◌, ◌*◌, ◌/◌, ◌%◌, ◌<◌, ◌≤◌, Bool, true, false, List, [], ◌∷◌, ◌++◌, length, take, drop, refl, sym, ◌∙◌, ap, subst, inl, inr, rules, arith}
+use Rattle.std.proofs.Common.{arith}
 use Rattle.reader.proofs.judge.Goals as goal
 
 pub returns-in-Tiny : goal.returns-in-Tiny

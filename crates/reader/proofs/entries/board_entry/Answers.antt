@@ -1,5 +1,4 @@
 -- `entries::board_entry` meets its contract, field by field, each from the head. Assumes nothing.
-use Rattle.std.proofs.Common.{◌≡◌, ℕ, ◌+◌, ◌-◌, ◌*◌, ◌/◌, ◌%◌, ◌<◌, ◌≤◌, Bool, true, false, List, [], ◌∷◌, ◌++◌, length, take, drop, refl, sym, ◌∙◌, ap, subst, inl, inr, rules, arith}
 use Rattle.board_layout.specs.Layout.{shape_at}
 use Rattle.reader.specs.Entries.{entry_at}
 use Rattle.reader.proofs.entries.board_entry.Goals as goal

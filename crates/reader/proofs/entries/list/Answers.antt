@@ -26,9 +26,9 @@ pub loop-i-preserved : goal.loop-i-preserved
 loop-i-preserved c =
     let a = c.args in
     let bound : c.entry_count-count.result ≤ length a.out.now =
-        room (length a.out.now) (judged a.format a.kinds a.image.now) _ _ c.list_answer-answer.ensures c.entry_count-count.ensures in
+    room (length a.out.now) (judged a.format a.kinds a.image.now) _ _ c.list_answer-answer.ensures c.entry_count-count.ensures in
     let entry : c.entry_at.result ≡ entry_of a.format a.kinds a.image.now c.loop-i.i =
-        c.entry_at.ensures ∙ ap (entry_at a.format a.kinds a.image.now) c.loop-i.invariant.place in
+    c.entry_at.ensures ∙ ap (entry_at a.format a.kinds a.image.now) c.loop-i.invariant.place in
     record {
       stored = rw entry (fill-turn (entry_of a.format a.kinds a.image.now) _ _ _ (omega (arith, bound)) c.loop-i.invariant.stored);
       place =
@@ -43,6 +43,6 @@ returns c =
     let a = c.args in
     let all : c.loop-i.i ≡ c.entry_count-count.result = omega arith in
     let stored =
-        fill-done (entry_of a.format a.kinds a.image.now) _ _ _ _
-        (all ∙ c.entry_count-count.ensures ∙ ap entry_count c.list_answer-answer.ensures) c.loop-i.invariant.stored in
+    fill-done (entry_of a.format a.kinds a.image.now) _ _ _ _
+    (all ∙ c.entry_count-count.ensures ∙ ap entry_count c.list_answer-answer.ensures) c.loop-i.invariant.stored in
     ap₂ (λ (x : ListAnswer) (l : List Entry). (x, l)) c.list_answer-answer.ensures stored ∙ list-filled a.format a.kinds a.image.now a.out.now

@@ -1,5 +1,4 @@
 -- `entries::tiny_entry` meets its contract, field by field. Assumes nothing.
-use Rattle.std.proofs.Common.{◌≡◌, ℕ, ◌+◌, ◌-◌, ◌*◌, ◌/◌, ◌%◌, ◌<◌, ◌≤◌, Bool, true, false, List, [], ◌∷◌, ◌++◌, length, take, drop, refl, sym, ◌∙◌, ap, subst, inl, inr, rules, arith}
 use Rattle.reader.specs.Entries.{entry_at}
 use Rattle.reader.proofs.entries.tiny_entry.Goals as goal
 

@@ -1,5 +1,5 @@
 -- `items::tiny_numbered` meets its contract: what the format answers, as an answer over both. Assumes nothing.
-use Rattle.std.proofs.Common.{◌≡◌, ℕ, ◌+◌, ◌-◌, ◌*◌, ◌/◌, ◌%◌, ◌<◌, ◌≤◌, Bool, true, false, List, [], ◌∷◌, ◌++◌, length, take, drop, refl, sym, ◌∙◌, ap, subst, inl, inr, rules, arith}
+use Rattle.std.proofs.Common.{sym, ◌∙◌, ap}
 use Rattle.reader.proofs.laws.Items.{from_tiny, tiny-numbered}
 use Rattle.reader.proofs.items.tiny_numbered.Goals as goal
 

@@ -1,5 +1,5 @@
 -- `layout::go_on` meets its contract: it stays from the end on, and goes to the next item or to the end. Assumes nothing.
-use Rattle.std.proofs.Common.{◌≡◌, ℕ, ◌+◌, ◌-◌, ◌*◌, ◌/◌, ◌%◌, ◌<◌, ◌≤◌, Bool, true, false, List, [], ◌∷◌, ◌++◌, length, take, drop, refl, sym, ◌∙◌, ap, subst, inl, inr, rules, arith}
+use Rattle.std.proofs.Common.{sym, arith}
 use Rattle.chain.proofs.laws.Onward.{onward-more, onward-end}
 use Rattle.reader.specs.Formats.{next}
 use Rattle.reader.proofs.layout.go_on.Goals as goal

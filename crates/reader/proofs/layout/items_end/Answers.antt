@@ -1,5 +1,4 @@
 -- `layout::items_end` meets its contract: the arm of each format. Assumes nothing.
-use Rattle.std.proofs.Common.{◌≡◌, ℕ, ◌+◌, ◌-◌, ◌*◌, ◌/◌, ◌%◌, ◌<◌, ◌≤◌, Bool, true, false, List, [], ◌∷◌, ◌++◌, length, take, drop, refl, sym, ◌∙◌, ap, subst, inl, inr, rules, arith}
 use Rattle.reader.proofs.layout.items_end.Goals as goal
 
 pub returns-in-Tiny : goal.returns-in-Tiny

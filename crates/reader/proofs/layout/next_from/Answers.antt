@@ -1,5 +1,4 @@
 -- `layout::next_from` meets its contract: the arm of each format. Assumes nothing.
-use Rattle.std.proofs.Common.{◌≡◌, ℕ, ◌+◌, ◌-◌, ◌*◌, ◌/◌, ◌%◌, ◌<◌, ◌≤◌, Bool, true, false, List, [], ◌∷◌, ◌++◌, length, take, drop, refl, sym, ◌∙◌, ap, subst, inl, inr, rules, arith}
 use Rattle.tiny_layout.specs.Layout.{next}
 use Rattle.reader.proofs.layout.next_from.Goals as goal
 

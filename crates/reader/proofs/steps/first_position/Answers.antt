@@ -1,5 +1,4 @@
 -- `steps::first_position` meets its contract, field by field. Assumes nothing.
-use Rattle.std.proofs.Common.{◌≡◌, ℕ, ◌+◌, ◌-◌, ◌*◌, ◌/◌, ◌%◌, ◌<◌, ◌≤◌, Bool, true, false, List, [], ◌∷◌, ◌++◌, length, take, drop, refl, sym, ◌∙◌, ap, subst, inl, inr, rules, arith}
 use Rattle.reader.proofs.steps.first_position.Goals as goal
 
 pub returns : goal.returns

@@ -1,5 +1,5 @@
 -- `steps::item_at` meets its contract: the arm of each format. Assumes nothing.
-use Rattle.std.proofs.Common.{◌≡◌, ℕ, ◌+◌, ◌-◌, ◌*◌, ◌/◌, ◌%◌, ◌<◌, ◌≤◌, Bool, true, false, List, [], ◌∷◌, ◌++◌, length, take, drop, refl, sym, ◌∙◌, ap, subst, inl, inr, rules, arith}
+use Rattle.std.proofs.Common.{ap}
 use Rattle.reader.specs.declared.Item.{Item}
 use Rattle.reader.proofs.steps.item_at.Goals as goal
 

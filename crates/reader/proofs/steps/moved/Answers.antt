@@ -1,5 +1,5 @@
 -- `steps::moved` meets its contract: by the verdict. Assumes nothing.
-use Rattle.std.proofs.Common.{◌≡◌, ℕ, ◌+◌, ◌-◌, ◌*◌, ◌/◌, ◌%◌, ◌<◌, ◌≤◌, Bool, true, false, List, [], ◌∷◌, ◌++◌, length, take, drop, refl, sym, ◌∙◌, ap, subst, inl, inr, rules, arith}
+use Rattle.std.proofs.Common.{sym, ◌∙◌, ap}
 use Rattle.reader.specs.Walk.{moved_if, moved}
 use Rattle.reader.proofs.steps.moved.Goals as goal
 

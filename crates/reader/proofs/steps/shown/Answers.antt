@@ -1,5 +1,5 @@
 -- `steps::shown` meets its contract: by the verdict, and over an accepted image by whether the place lies before the end. Assumes nothing.
-use Rattle.std.proofs.Common.{◌≡◌, ℕ, ◌+◌, ◌-◌, ◌*◌, ◌/◌, ◌%◌, ◌<◌, ◌≤◌, Bool, true, false, List, [], ◌∷◌, ◌++◌, length, take, drop, refl, sym, ◌∙◌, ap, subst, inl, inr, rules, arith, le-ltb, lt-ltb}
+use Rattle.std.proofs.Common.{sym, ap, le-ltb, lt-ltb}
 use Rattle.reader.specs.Walk.{shown_if, shown}
 use Rattle.reader.proofs.steps.shown.Goals as goal
 

@@ -1,6 +1,6 @@
 -- `step_numbered` meets its contract: a turn steps (`next-step`), and after one step more than come before the one of the number the walk shows what that one
 -- shows (`walk-shows`, `steps-due`). Assumes nothing.
-use Rattle.std.proofs.Common.{◌≡◌, ℕ, ◌+◌, suc, List, sym, ap, ◌∙◌, add-one, arith, ◌<◌, ◌^◌}
+use Rattle.std.proofs.Common.{◌≡◌, ℕ, ◌+◌, List, sym, ap, ◌∙◌, add-one, arith, ◌<◌, ◌^◌}
 use Rattle.std.specs.Borrow.{Bor}
 use Rattle.board_layout.specs.Places.{StructLen}
 use Rattle.octets.specs.Bytes.{Octets}
@@ -10,7 +10,6 @@ use Rattle.kinds.specs.declared.Kinds.{Kinds}
 use Rattle.reader.specs.Formats.{judged, end}
 use Rattle.reader.specs.Walk.{fresh_walk, stepped, walk_after, step_numbered, steps_due}
 use Rattle.reader.specs.declared.Format.{Format}
-use Rattle.reader.specs.declared.StepAnswer.{StepAnswer}
 use Rattle.reader.specs.declared.Walk.{Walk}
 use Rattle.reader.proofs.laws.Walk.{walk-shows, steps-due, due-bound}
 use Rattle.reader.proofs.steps.step_numbered.Goals as goal

@@ -1,5 +1,5 @@
 -- `steps::steps_due` meets its contract: the smaller of two numbers, or 0 for a refused image. Assumes nothing.
-use Rattle.std.proofs.Common.{◌≡◌, ℕ, ◌+◌, ◌-◌, ◌*◌, ◌/◌, ◌%◌, ◌<◌, ◌≤◌, Bool, true, false, List, [], ◌∷◌, ◌++◌, length, take, drop, refl, sym, ◌∙◌, ap, subst, inl, inr, rules, arith}
+use Rattle.std.proofs.Common.{arith}
 use Rattle.reader.proofs.steps.steps_due.Goals as goal
 
 pub returns-then-number-count : goal.returns-then-number-count
