@@ -1,4 +1,4 @@
-// The list of entries. `list` has a loop over a lent slice of structs and is proved by hand; all that it decides is decided by the functions before it.
+// The list of entries. All that `list` decides is decided by the functions before it.
 ghost use Rattle.std.specs.Prelude.{◌≡◌, ◌-◌};
 ghost use Rattle.reader.specs.Entries.{entry_at};
 ghost use Rattle.reader.specs.Formats.{judged};

@@ -1,4 +1,4 @@
-// The walk. `fresh`, `step` and `step_numbered` are over a struct that holds the lent image and are proved by hand; what a step does is `moved` and `shown`.
+// The walk. `fresh`, `step` and `step_numbered` are over a struct that holds the lent image; what a step does is `moved` and `shown`.
 ghost use Rattle.std.specs.Prelude.{◌≡◌};
 ghost use Rattle.reader.specs.Items.{item_at};
 ghost use Rattle.reader.specs.Walk.{first, moved, shown, fresh_walk, stepped, step_numbered, steps_due};
