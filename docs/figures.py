@@ -4,8 +4,9 @@
     { date; .ci/run; date; } 2>&1 | tee log
     docs/figures.py log >docs/FIGURES.md
 
-The log must be of this tree: it has each crate of crates.txt proved from nothing, each must-fail edit refused, the table of tests/run.py and the
-verdict. Its minutes are taken from the lines of `date`, or from the line `real` of `time`; without either they are left out.
+The log must be of this tree: it has each crate of crates.txt proved, or kept from an earlier run on the same machine, each must-fail edit refused, the table of
+tests/run.py and the verdict. Of a crate that was kept the log does not say how many functions it has. The minutes are taken from the lines of `date`, or from the
+line `real` of `time`; without either they are left out.
 """
 import collections
 import datetime
@@ -16,8 +17,9 @@ import sys
 
 ROOT = os.path.join(os.path.dirname(os.path.abspath(__file__)), "..")
 FUNCTIONS = re.compile(r"logic=proved functions=(\d+) ")
-PROVED = re.compile(r"rt: (\w+) proved \((\d+) s\)$")
-REFUSED = re.compile(r"rt: must-fail (\w+)/(\w+): refused, as it must be \(.*?(\d+) s\)$")
+PROVED = re.compile(r"rt: (\w+) proved$")
+KEPT = re.compile(r"rt: (\w+) is kept: ")
+REFUSED = re.compile(r"rt: must-fail (\w+)/(\w+)\.edit: refused, as it must be")
 TABLE = re.compile(r"tests: +(number(?: +[\w-]+)+|(?:accepted|\d+)(?: +(?:\d+|-))+)$")
 VERDICT = re.compile(r"(\d+ passed, \d+ failed)$")
 REAL = re.compile(r"real\s+(?:(\d+)h)?(\d+)m([\d.]+)s$")
@@ -26,20 +28,22 @@ CLOCKS = ("%b %d %H:%M:%S %Y", "%b %d %I:%M:%S %p %Y")
 
 
 class Log:
-    """What a log says: functions and seconds of each crate, seconds of each edit, lines and table of the tests, verdict and times."""
+    """What a log says: functions of each crate, the edits that were refused, lines and table of the tests, verdict and times."""
 
     def __init__(self, lines):
-        self.functions, self.seconds, self.edits = {}, {}, collections.defaultdict(dict)
+        self.functions, self.edits = {}, collections.defaultdict(set)
         self.tests, self.table, self.verdict, self.dates, self.real = [], [], None, [], None
         counted = None
         for line in lines:
             if found := FUNCTIONS.match(line):
                 counted = int(found[1])
             elif found := PROVED.match(line):
-                self.functions[found[1]], self.seconds[found[1]] = counted, int(found[2])
+                self.functions[found[1]] = counted
                 counted = None
+            elif found := KEPT.match(line):
+                self.functions[found[1]] = "-"
             elif found := REFUSED.match(line):
-                self.edits[found[1]][found[2]] = int(found[3])
+                self.edits[found[1]].add(found[2])
             else:
                 self.other(line)
 
@@ -96,13 +100,12 @@ def row(cells):
 
 def crates_table(log, tree):
     """A row for each crate, and one for all."""
-    yield row(("crate", "functions", "seconds to prove", "edits", "seconds of its edits", "longest"))
-    yield row(["---"] + ["---:"] * 5)
+    yield row(("crate", "functions", "edits"))
+    yield row(["---"] + ["---:"] * 2)
     for name in tree:
-        took = log.edits[name].values()
-        yield row(("`%s`" % name, log.functions[name], log.seconds[name], len(took) or "-", sum(took) or "-", max(took, default="-")))
-    took = [seconds for edits in log.edits.values() for seconds in edits.values()]
-    yield row(("all", sum(log.functions.values()), sum(log.seconds.values()), len(took), sum(took), max(took)))
+        yield row(("`%s`" % name, log.functions[name], len(log.edits[name]) or "-"))
+    counts = list(log.functions.values())
+    yield row(("all", "-" if "-" in counts else sum(counts), sum(map(len, log.edits.values()))))
 
 
 def numbers_table(log):
@@ -120,8 +123,7 @@ def page(log, tree):
     yield "Made by docs/figures.py from the log of a run; not edited by hand. Its verdict was"
     yield "`%s`.%s\n" % (log.verdict, said)
     yield "## Crates\n"
-    yield "Seconds are those that passed while a check ran. Several ran at once, so their sums are more than"
-    yield "the time of the run. A must-fail edit is one check of its crate.\n"
+    yield "A must-fail edit is one check of its crate.\n"
     yield from crates_table(log, tree)
     yield "\n## How often each number was answered\n"
     yield "Of tests/run.py: a row for each refusal number, a column for each reader, writer and call that was"
