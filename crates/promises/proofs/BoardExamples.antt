@@ -18,7 +18,6 @@ use Rattle.board_fields.specs.Reserved.{reserved_used}
 use Rattle.board_layout.specs.Layout.{shape_at, end_at, round16, next, map_at, board_at, later_at, records}
 use Rattle.board_layout.specs.Shapes.{listed_shape, shape_of}
 use Rattle.board_records.specs.Records.{bad_map_record, repeated_label, bad_gpio_record}
-use Rattle.board_rules.specs.Examples.{logo}
 use Rattle.board_rules.specs.Judged.{judged}
 use Rattle.board_rules.specs.Rules.{rule20, rule21, rule22, rule23, rule24, rule25, rule26, rule27, rule28, rule29, rule30, rule31, rule32, rule33, rule34, misplaced, gap_used, expected, out_of_order, prom_sig_at, covered, check_over}
 use Rattle.chain.specs.Chain.{visit, chain}

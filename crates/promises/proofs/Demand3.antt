@@ -17,7 +17,7 @@ use Rattle.promises.proofs.Verdicts.{accepted-by, says-count}
 use Rattle.promises.proofs.View as seen
 use Rattle.promises.specs.Answers.{further_answers, answers}
 use Rattle.promises.specs.Complete.{NotShown, AgreeBut}
-use Rattle.promises.specs.Demand3.{Accepted, StringsOf, TwoReaders, as_step, as_entry, SameItems, Demand3}
+use Rattle.promises.specs.Demand3.{StringsOf, TwoReaders, as_step, as_entry, SameItems, Demand3}
 use Rattle.promises.specs.Hidden.{hide_item, hide_step, hide_entry, hide_list, hide_said, hide_record, hide_further, hidden}
 use Rattle.reader.specs.Formats.{judged, places}
 use Rattle.reader.specs.Values.{ItemValues, step_said}

@@ -34,7 +34,6 @@ use Rattle.promises.specs.Hidden.{has_pool, has_serial}
 use Rattle.promises.specs.SameOutside.{on_list, Lacks}
 use Rattle.reader.specs.Entries.{entry_at}
 use Rattle.reader.specs.Formats.{judged, places, known}
-use Rattle.reader.specs.Items.{item_at}
 use Rattle.reader.specs.Values as reader
 use Rattle.reader.specs.Values.{FieldValues, ItemValues, tiny_fields, board_fields, item_values}
 use Rattle.reader.specs.declared.Format.{Format}
