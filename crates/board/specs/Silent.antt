@@ -56,7 +56,7 @@ record Tables : Type 0 where
   mem_cnfg : table MemCnfg 0x38 ≡ range 0x12 0x38
   mac_info : table MacInfo 0x38 ≡ range 0x20 0x38
   prom_sig : table PromSig 0x38 ≡ range 0x12 0x38
-  uCode : table UCode 0x38 ≡ range 0x10 0x38
+  u_code : table UCode 0x38 ≡ range 0x10 0x38
   video : table Video 0x38 ≡ range 0x10 0x38
 
 tables : Tables
@@ -76,6 +76,6 @@ tables =
       mem_cnfg = refl;
       mac_info = refl;
       prom_sig = refl;
-      uCode = refl;
+      u_code = refl;
       video = refl;
     }

@@ -4,7 +4,7 @@ use Rattle.board_layout.specs.declared.Records.{Records}
 use Rattle.board_layout.specs.declared.Records.TheVariants.{Map, Gpio}
 use Rattle.board_layout.specs.declared.Shape.{Shape}
 use Rattle.board_layout.specs.declared.Shape.TheVariants.{Eeprom, EeprMap, BrdInfo, PromSig, AcpiTbl, FpgaNfo, GpioDat, HdCodec, Logo, MemCnfg, MacInfo, UCode, Video, Other}
-use Rattle.kinds.specs.Signatures.{eeprom, eepr_map, brd_info, prom_sig, acpi_tbl, fpga_nfo, gpio_dat, hd_codec, logo, mem_cnfg, mac_info, uCode, video}
+use Rattle.kinds.specs.Signatures.{eeprom, eepr_map, brd_info, prom_sig, acpi_tbl, fpga_nfo, gpio_dat, hd_codec, logo, mem_cnfg, mac_info, u_code, video}
 use Rattle.kinds.specs.declared.Kinds.{Kinds}
 
 -- the table of one of the nine structures that a list may hold, by signature
@@ -17,7 +17,7 @@ listed_shape g =
     (cond (eqb g logo) Logo
     (cond (eqb g mem_cnfg) MemCnfg
     (cond (eqb g mac_info) MacInfo
-    (cond (eqb g uCode) UCode
+    (cond (eqb g u_code) UCode
     (cond (eqb g video) Video Other))))))))
 
 -- the table of a structure, by signature and VerMajor. The four that count as on every list have theirs with any VerMajor (rules 21 and 26 ask for 1);

@@ -1,4 +1,4 @@
-// Chains of items in an image, and the first place where a rule is broken: definitions and laws, in specs/.
+// Chains of items in an image, and the first place where a rule is broken: definitions in specs/, laws in proofs/.
 #![tactic(auto)]
 
 ghost use Rattle.std.specs.Prelude.{◌≡◌};

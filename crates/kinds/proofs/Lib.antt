@@ -1,3 +1,3 @@
--- Laws that only the proofs of this crate need. Assumes nothing.
+-- The laws of the definitions, which other crates may cite (laws), and laws that only the proofs of this crate need. Assumes nothing.
 pub mod Absent
 pub mod laws

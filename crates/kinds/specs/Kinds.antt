@@ -5,7 +5,7 @@ use Rattle.std.specs.Prelude.{ℕ, ◌+◌, ◌*◌, ◌/◌, ◌%◌, ◌^◌, 
 use Rattle.kinds.specs.declared.Kind.{Kind}
 use Rattle.kinds.specs.declared.Kind.TheVariants.{Tag, Signature}
 use Rattle.kinds.specs.declared.Kinds.{Kinds}
-use Rattle.kinds.specs.Signatures.{acpi_tbl, fpga_nfo, gpio_dat, hd_codec, logo, mem_cnfg, mac_info, uCode, video}
+use Rattle.kinds.specs.Signatures.{acpi_tbl, fpga_nfo, gpio_dat, hd_codec, logo, mem_cnfg, mac_info, u_code, video}
 
 -- a row of a table: the number of a kind, and its mark
 abbrev pub Row : Type 0
@@ -39,7 +39,7 @@ signatures k =
     ∷ (logo, k.logo)
     ∷ (mem_cnfg, k.memcnfg)
     ∷ (mac_info, k.macinfo)
-    ∷ (uCode, k.ucode)
+    ∷ (u_code, k.ucode)
     ∷ (video, k.video)
     ∷ []
 
@@ -68,7 +68,7 @@ picked test =
       logo = test (Signature logo);
       memcnfg = test (Signature mem_cnfg);
       macinfo = test (Signature mac_info);
-      ucode = test (Signature uCode);
+      ucode = test (Signature u_code);
       video = test (Signature video);
     }
 

@@ -1,2 +1,2 @@
--- What several proofs share. Assumes nothing.
+-- The laws of the definitions, which other crates may cite. Assumes nothing.
 pub mod laws

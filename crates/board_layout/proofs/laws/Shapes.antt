@@ -8,7 +8,7 @@ use Rattle.board_layout.specs.Shapes.{listed_shape, shape_of, knows, on_every_li
 use Rattle.board_layout.specs.declared.Shape.{Shape}
 use Rattle.board_layout.specs.declared.Shape.TheVariants.{Eeprom, EeprMap, BrdInfo, PromSig, AcpiTbl, FpgaNfo, GpioDat, HdCodec, Logo, MemCnfg, MacInfo, UCode, Video, Other}
 use Rattle.kinds.specs.Kinds.{Contains, listed}
-use Rattle.kinds.specs.Signatures.{eeprom, eepr_map, brd_info, prom_sig, acpi_tbl, fpga_nfo, gpio_dat, hd_codec, logo, mem_cnfg, mac_info, uCode, video}
+use Rattle.kinds.specs.Signatures.{eeprom, eepr_map, brd_info, prom_sig, acpi_tbl, fpga_nfo, gpio_dat, hd_codec, logo, mem_cnfg, mac_info, u_code, video}
 use Rattle.kinds.specs.declared.Kind.TheVariants.{Signature}
 use Rattle.kinds.specs.declared.Kinds.{Kinds}
 
@@ -38,7 +38,7 @@ module _ (k : Kinds) where
       (row (eqb g logo) Logo _ _
       (row (eqb g mem_cnfg) MemCnfg _ _
       (row (eqb g mac_info) MacInfo _ _
-      (row (eqb g uCode) UCode _ _
+      (row (eqb g u_code) UCode _ _
       (row (eqb g video) Video Other false refl))))))))
 
   major-known : (t : Bool) (a : Shape) → knows k (cond t a Other) ≡ (knows k a && t)
@@ -66,6 +66,6 @@ knows-less longer shorter c HdCodec e = c.keeps (Signature hd_codec) e
 knows-less longer shorter c Logo e = c.keeps (Signature logo) e
 knows-less longer shorter c MemCnfg e = c.keeps (Signature mem_cnfg) e
 knows-less longer shorter c MacInfo e = c.keeps (Signature mac_info) e
-knows-less longer shorter c UCode e = c.keeps (Signature uCode) e
+knows-less longer shorter c UCode e = c.keeps (Signature u_code) e
 knows-less longer shorter c Video e = c.keeps (Signature video) e
 knows-less longer shorter c Other e = e

@@ -26,7 +26,7 @@ use Rattle.chain.specs.First.{first, when}
 use Rattle.chain.specs.declared.Found.TheVariants.{At, Nothing}
 use Rattle.chain.proofs.laws.All.{all-map, all-both}
 use Rattle.chain.proofs.laws.First.{at-nothing, first-all, when-nothing, or_else-left}
-use Rattle.kinds.specs.Signatures.{eeprom, eepr_map, brd_info, prom_sig, acpi_tbl, fpga_nfo, gpio_dat, hd_codec, logo, mem_cnfg, mac_info, uCode, video}
+use Rattle.kinds.specs.Signatures.{eeprom, eepr_map, brd_info, prom_sig, acpi_tbl, fpga_nfo, gpio_dat, hd_codec, logo, mem_cnfg, mac_info, u_code, video}
 use Rattle.kinds.specs.declared.Kinds.{Kinds}
 use Rattle.verdict.specs.declared.Judged.TheVariants.{Accepted}
 
@@ -52,7 +52,7 @@ later-rows g major a =
     (either P (eqb g logo) (λ _. omega arith)
     (either P (eqb g mem_cnfg) (λ _. omega arith)
     (either P (eqb g mac_info) (λ _. omega arith)
-    (either P (eqb g uCode) (λ _. omega arith)
+    (either P (eqb g u_code) (λ _. omega arith)
     (either P (eqb g video) (λ _. omega arith) (omega arith))))))))))
     (omega arith)))))
   where
