@@ -68,11 +68,11 @@ list: ## list the image in a file, without the command: make list IMAGE=samples/
 write: ## write an image, without the command: make write REQUEST='12; 10 01 00; 74 6F 70 B1' (FORMAT=board: docs/WRITING.md)
 	@scripts/write "$$REQUEST" "$$FORMAT"
 
-test: ## the gate: prove everything from nothing, try the must-fail edits, run the programs
+test: ## the gate: prove everything, try the must-fail edits, run the programs, compare
 	@.ci/run
 
-check: ## prove what has changed since it was last proved
-	@rt all check
+check: ## prove what has changed since it was last proved, and run the programs
+	@rt all test
 
 compare: ## compare with readers and writers in C and Rust: make compare IMAGES=20000 SEED=1 BOARDS=12000
 	@scripts/prove $(COMPARED)

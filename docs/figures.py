@@ -75,7 +75,7 @@ def clock(text):
 def in_tree():
     """The crates in the order of crates.txt, and the labels of the edits of each."""
     with open(os.path.join(ROOT, "crates.txt"), encoding="utf-8") as f:
-        crates = [line.split(":")[0] for line in f if re.match(r"\w+:", line)]
+        crates = [line.split(":")[0].split()[0] for line in f if re.match(r"\w+( staticlib)?:", line)]
     return {name: sorted(os.path.basename(path)[:-5] for path in glob.glob(os.path.join(ROOT, "crates", name, "must-fail", "*.edit")))
             for name in crates}
 
