@@ -4,7 +4,7 @@
     run.py [IMAGES [SEED [BOARDS]]]
 
 1. every sample is listed as stored beside it; input of a million bytes is listed or refused; too many requests, records past the last
-   byte that is read, and a read error are met as they should be;
+   byte that is read, a read error and an output that is full are met as they should be;
 2. every answer of `tiny_answers` for IMAGES tiny images, each with two lists, is the answer of tests/reference/tiny.c and of
    tests/independent.rs (by tests/answers.rs); and where an image was made for an answer of the judge with the full list, it gets that, and
    with another list too unless a rule that asks the list was broken. The same for `board_answers`, BOARDS board images,
@@ -174,6 +174,15 @@ def other_input():
         if complaint(program, folder) != b"%s: standard input cannot be read\n" % program.encode():
             fail("%s does not say a read error on standard error" % program)
     os.close(folder)
+
+
+def full_output():
+    """A program whose output is full ends with status 1, and says why on standard error."""
+    for program in ("tiny_list", "board_list", "tiny_write", "board_write", "tiny_answers", "board_answers", "choice_answers"):
+        with open("crates/%s/stdin" % program, "rb") as given, open("/dev/full", "wb") as out:
+            run = subprocess.run([os.path.join(BIN, program)], stdin=given, stdout=out, stderr=subprocess.PIPE)
+        if run.returncode != 1 or b"No space left on device" not in run.stderr:
+            fail("%s with a full output: status %d, %s" % (program, run.returncode, run.stderr.decode()))
 
 
 def record(form, mask, image):
@@ -423,13 +432,14 @@ def compare_choices(reference, number, seed):
 
 
 def fixed(references, others):
-    """What needs no images made: documents, the words of refusals, what codes mean, samples, stored answers, input that is too long or cannot be read."""
+    """What needs no images made: documents, the words of refusals, what codes mean, samples, stored answers, input that is too long or cannot be read, an output that is full."""
     print("tests: the words of refusals are the same in each of %d places, %d of them compared" % same_words())
     print("tests: %d values of codes listed with what they mean" % codes(references[BOARD]))
     try_documents()
     print("tests: %d samples listed as stored" % samples(references))
     stored_answers(references, others)
     other_input()
+    full_output()
     long_run(references)
     for form in (TINY, BOARD):
         long_requests(form, references[form])
