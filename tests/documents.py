@@ -20,7 +20,7 @@ from building import fail
 COLUMNS = 100
 DECISIONS = "docs/DECISIONS.md"
 # documents in which a path that begins with the name of a crate is under crates/
-UNDER_CRATES = ("docs/ARCHITECTURE.md", "docs/CHANGING.md", DECISIONS, "docs/PROMISES.md", "docs/PORT.md")
+UNDER_CRATES = ("docs/ARCHITECTURE.md", "docs/CHANGING.md", DECISIONS, "docs/PROMISES.md", "docs/PORT.md", "docs/DESIGN-PASS.md")
 # made, and not always in the tree
 MADE = re.compile(r"target/")
 FOLDERS = ("crates", "chip", "scripts", "tests", "samples", "docs", "bench", ".ci")

@@ -37,8 +37,8 @@ def in_c(function):
 
 
 def in_rattle(path):
-    """`NUMBER => put(out, b"words"),`."""
-    return by_number(path, ((int(number), said) for number, said in re.findall(r'\b(\d+) => put\(\s*out,\s*b"([^"]*)",?\s*\)', text_of(path))))
+    """`NUMBER => "words",`."""
+    return by_number(path, ((int(number), said) for number, said in re.findall(r'\b(\d+) =>\s*"([^"]*)"', text_of(path))))
 
 
 def rows_of(path, heading):

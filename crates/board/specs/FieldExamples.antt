@@ -9,7 +9,6 @@ use Rattle.chain.specs.All.{All}
 use Rattle.chain.specs.Fill.{tab}
 use Rattle.octets.specs.Bytes.{le16, le32}
 use Rattle.octets.specs.Rows.{Field, number, bytes, part}
-use Rattle.octets.specs.Runs.{six_at, eight_at, sixteen_at}
 
 -- a structure of Length 67h at 10h: its byte at offset o is 90h + o, save in Length
 abbrev image : List ℕ
@@ -106,6 +105,6 @@ examples =
     ∷ []
 
 fields-shown : All Holds examples
-unfolding rest_at eeprom_at eepr_map_at brd_info_at prom_sig_fields_at fpga_nfo_at mem_cnfg_at mac_info_at map_record_at gpio_record_at six_at eight_at sixteen_at le16 le32 tab
+unfolding rest_at eeprom_at eepr_map_at brd_info_at prom_sig_fields_at fpga_nfo_at mem_cnfg_at mac_info_at map_record_at gpio_record_at le16 le32 tab
 fields-shown =
     (refl, (refl, (refl, (refl, (refl, (refl, (refl, (refl, (refl, (refl, (refl, (refl, (refl, (refl, (refl, tt)))))))))))))))

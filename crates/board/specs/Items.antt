@@ -1,12 +1,12 @@
 -- What is shown of an item. Layout paper 000, its tables; paper 01: "An item not known shows only its kind, place and length. A known one shows each field of
 -- its table but reserved bytes; what follows the fields is shown by place and length." Check numbers are never shown. Assumes nothing.
-use Rattle.std.specs.Prelude.{ℕ, ◌+◌, ◌-◌, cond, List}
+use Rattle.std.specs.Prelude.{ℕ, ◌+◌, ◌-◌, cond, List, Option, Some, None}
 use Rattle.board.specs.declared.BrdInfoFields.{BrdInfoFields}
 use Rattle.board.specs.declared.EeprMapFields.{EeprMapFields}
 use Rattle.board.specs.declared.EepromFields.{EepromFields}
 use Rattle.board.specs.declared.Fields.{Fields}
 use Rattle.board.specs.declared.FpgaNfoFields.{FpgaNfoFields}
-use Rattle.board.specs.declared.Item.{Item}
+use Rattle.board.specs.AnswerTypes.{Item}
 use Rattle.board.specs.declared.MacInfoFields.{MacInfoFields}
 use Rattle.board.specs.declared.MemCnfgFields.{MemCnfgFields}
 use Rattle.board.specs.declared.PromSigFields.{PromSigFields}
@@ -16,8 +16,7 @@ use Rattle.board_layout.specs.Places.{head_size, StructLen, CrcLength, Version, 
 use Rattle.board_layout.specs.Shapes.{knows}
 use Rattle.board_layout.specs.declared.Shape.{Shape}
 use Rattle.kinds.specs.declared.Kinds.{Kinds}
-use Rattle.octets.specs.Bytes.{byte, le16, le32}
-use Rattle.octets.specs.Runs.{six_at, eight_at, sixteen_at}
+use Rattle.octets.specs.Bytes.{byte, le16, le32, run}
 use Rattle.octets.specs.declared.Span.{Span}
 
 -- what follows the fields of the structure at p, from an offset on: place and length
@@ -32,7 +31,7 @@ eeprom_at s p = record { structlen = le32 s (p + StructLen); crclength = le32 s 
 unfoldable pub eepr_map_at : List ℕ → ℕ → EeprMapFields
 eepr_map_at s p =
     record {
-      partlabel = sixteen_at s (p + PartLabel);
+      partlabel = run s (p + PartLabel) 16;
       blklength = le32 s (p + BlkLength);
       pagesize = le16 s (p + PageSize);
       partsize = le32 s (p + PartSize);
@@ -46,9 +45,9 @@ eepr_map_at s p =
 unfoldable pub brd_info_at : List ℕ → ℕ → BrdInfoFields
 brd_info_at s p =
     record {
-      manuname = sixteen_at s (p + ManuName);
-      brdname = sixteen_at s (p + BrdName);
-      brdserial = sixteen_at s (p + BrdSerial);
+      manuname = run s (p + ManuName) 16;
+      brdname = run s (p + BrdName) 16;
+      brdserial = run s (p + BrdSerial) 16;
       boardid = le32 s (p + BoardId);
       fabid = le32 s (p + FabId);
       ecid = le32 s (p + EcId);
@@ -71,11 +70,16 @@ mem_cnfg_at s p = record { spdslot = le16 s (p + SpdSlot); memdata = rest_at s p
 -- $MacInfo
 unfoldable pub mac_info_at : List ℕ → ℕ → MacInfoFields
 mac_info_at s p =
-    record { nicid = eight_at s (p + NicId); macaddr = six_at s (p + MacAddr); nicnum = le16 s (p + NicNum); nicdata = rest_at s p NicData }
+    record { nicid = run s (p + NicId) 8; macaddr = run s (p + MacAddr) 6; nicnum = le16 s (p + NicNum); nicdata = rest_at s p NicData }
 
 -- a known structure: its head, and its fields
 abbrev pub known : List ℕ → ℕ → Fields → Item
-known s p fields = Item.Known (record { major = major_at s p; minor = minor_at s p; length = length_at s p; fields = fields })
+known s p fields = Some (record { major = major_at s p; minor = minor_at s p; length = length_at s p; fields = fields })
+
+-- a structure with these fields, if it has some
+abbrev pub headed : List ℕ → ℕ → Option Fields → Item
+headed s p (Some fields) = known s p fields
+headed s p None = None
 
 -- by its table
 abbrev pub item_as : List ℕ → ℕ → Shape → Item
@@ -92,7 +96,7 @@ item_as s p Shape.MemCnfg = known s p (Fields.MemCnfg (mem_cnfg_at s p))
 item_as s p Shape.MacInfo = known s p (Fields.MacInfo (mac_info_at s p))
 item_as s p Shape.UCode = known s p (Fields.UCode (rest_at s p UcodeData))
 item_as s p Shape.Video = known s p (Fields.Video (rest_at s p VideoData))
-item_as s p Shape.Other = Item.NotKnown
+item_as s p Shape.Other = None
 
 -- the item at p: signature, place and data length (past the generic head) of every item, and the fields of a known one
 unfoldable pub item_at : Kinds → List ℕ → ℕ → ShownItem
@@ -101,5 +105,5 @@ item_at k s p =
       signature = signature_at s p;
       place = p;
       length = length_at s p - head_size;
-      item = cond (knows k (shape_at s p)) (item_as s p (shape_at s p)) Item.NotKnown;
+      item = cond (knows k (shape_at s p)) (item_as s p (shape_at s p)) None;
     }

@@ -3,14 +3,13 @@ use Rattle.std.specs.Prelude.{ℕ, ◌+◌, List}
 use Rattle.board.specs.declared.GpioRecord.{GpioRecord}
 use Rattle.board.specs.declared.MapRecord.{MapRecord}
 use Rattle.board_layout.specs.Places.{MapLabel, MapLength, MapOffset, Address, GpioLabel, GpioLength, GpioOffset, AndData, OrData, DataSize, GpioDataType}
-use Rattle.octets.specs.Bytes.{byte, le32}
-use Rattle.octets.specs.Runs.{sixteen_at}
+use Rattle.octets.specs.Bytes.{byte, le32, run}
 
 -- a record of the map. "An offset in the image and a bus address are counted apart"
 unfoldable pub map_record_at : List ℕ → ℕ → MapRecord
 map_record_at s r =
     record {
-      maplabel = sixteen_at s (r + MapLabel);
+      maplabel = run s (r + MapLabel) 16;
       length = le32 s (r + MapLength);
       offset = record { 0 = le32 s (r + MapOffset) };
       address = record { 0 = byte s (r + Address) };
@@ -20,7 +19,7 @@ map_record_at s r =
 unfoldable pub gpio_record_at : List ℕ → ℕ → GpioRecord
 gpio_record_at s r =
     record {
-      gpiolabel = sixteen_at s (r + GpioLabel);
+      gpiolabel = run s (r + GpioLabel) 16;
       length = le32 s (r + GpioLength);
       offset = le32 s (r + GpioOffset);
       anddata = le32 s (r + AndData);

@@ -13,7 +13,7 @@ use Rattle.chain.specs.First.{first}
 use Rattle.chain.specs.Keep.{keep}
 use Rattle.octets.specs.Bytes.{le16, le32}
 use Rattle.octets.specs.Rows.{Value, number, bytes, part, text, undecodable, Field}
-use Rattle.octets.specs.Runs.{six_at, eight_at, sixteen_at, difference, same_run}
+use Rattle.octets.specs.Runs.{difference, same_run}
 
 -- ---- every number that is shown
 abbrev value_numbers : Value → List ℕ
@@ -60,7 +60,7 @@ record Tables : Type 0 where
   video : table Video 0x38 ≡ range 0x10 0x38
 
 tables : Tables
-unfolding rest_at eeprom_at eepr_map_at brd_info_at prom_sig_fields_at fpga_nfo_at mem_cnfg_at mac_info_at map_record_at gpio_record_at keep same_run difference visit chain first tab le16 le32 six_at eight_at sixteen_at
+unfolding rest_at eeprom_at eepr_map_at brd_info_at prom_sig_fields_at fpga_nfo_at mem_cnfg_at mac_info_at map_record_at gpio_record_at keep same_run difference visit chain first tab le16 le32
 tables =
     record {
       eeprom = refl;

@@ -1,30 +1,25 @@
 -- The paper's numbers and values of each answer: a refusal's number and place; signature, place and data length of an item, and the fields of a known one and of
 -- a record, each under its label of layout paper 000. Names, labels and addresses are their bytes, and what follows the fields is its place and length. What the
 -- demands say of board images is said of these values. Assumes nothing.
-use Rattle.std.specs.Prelude.{ℕ, List, [], ◌∷◌}
+use Rattle.std.specs.Prelude.{ℕ, List, [], ◌∷◌, Some, None}
 use Prim.Native.String.{String}
 use Rattle.board.specs.declared.Fields.{Fields}
 use Rattle.board.specs.declared.GpioRecord.{GpioRecord}
-use Rattle.board.specs.declared.GpioRecordAnswer.{GpioRecordAnswer}
-use Rattle.board.specs.declared.Item.{Item}
-use Rattle.board.specs.declared.ItemAnswer.{ItemAnswer}
+use Rattle.board.specs.AnswerTypes.{GpioRecordAnswer, Item, ItemAnswer, MapRecordAnswer}
 use Rattle.board.specs.declared.Known.{Known}
 use Rattle.board.specs.declared.MapRecord.{MapRecord}
-use Rattle.board.specs.declared.MapRecordAnswer.{MapRecordAnswer}
 use Rattle.board.specs.declared.ShownItem.{ShownItem}
 use Rattle.octets.specs.Bytes.{spelled}
 use Rattle.octets.specs.Rows.{Field, number, bytes, part}
-use Rattle.octets.specs.Runs.{six_bytes, eight_bytes, sixteen_bytes}
-use Rattle.octets.specs.declared.Sixteen.{Sixteen}
 use Rattle.octets.specs.declared.Span.{Span}
-use Rattle.verdict.specs.Said.{Said, says, refused}
+use Rattle.verdict.specs.Said.{Said, said_by}
 
 -- a number; a name or label of sixteen bytes; what follows the fields
 abbrev pub counted : String → ℕ → Field
 counted label n = (label, number n)
 
-abbrev pub named : String → Sixteen → Field
-named label x = (label, bytes (sixteen_bytes x))
+abbrev pub named : String → List ℕ → Field
+named label x = (label, bytes x)
 
 abbrev pub follows : String → Span → Field
 follows label x = (label, part x.place x.length)
@@ -60,7 +55,7 @@ field_values (Fields.HdCodec x) = follows "HdaCodec" x ∷ []
 field_values (Fields.Logo x) = follows "LogoData" x ∷ []
 field_values (Fields.MemCnfg x) = counted "SpdSlot" x.spdslot ∷ follows "MemData" x.memdata ∷ []
 field_values (Fields.MacInfo x) =
-    ("NicId", bytes (eight_bytes x.nicid)) ∷ ("MacAddr", bytes (six_bytes x.macaddr)) ∷ counted "NicNum" x.nicnum ∷ follows "NicData" x.nicdata ∷ []
+    ("NicId", bytes x.nicid) ∷ ("MacAddr", bytes x.macaddr) ∷ counted "NicNum" x.nicnum ∷ follows "NicData" x.nicdata ∷ []
 field_values (Fields.UCode x) = follows "UcodeData" x ∷ []
 field_values (Fields.Video x) = follows "VideoData" x ∷ []
 
@@ -90,8 +85,8 @@ pub data FieldValues : Type 0 where
   not_known : FieldValues
 
 abbrev pub item_fields : Item → FieldValues
-item_fields (Item.Known x) = fields (known_values x)
-item_fields Item.NotKnown = not_known
+item_fields (Some x) = fields (known_values x)
+item_fields None = not_known
 
 -- kind (the eight signature bytes), place and data length of every item, and its fields
 pub record ItemValues : Type 0 where
@@ -105,15 +100,12 @@ item_values x = record { kind = spelled 8 x.signature; place = x.place; length =
 
 -- item by number
 abbrev pub item_said : ItemAnswer → Said ItemValues
-item_said (ItemAnswer.Shown x) = says (item_values x)
-item_said (ItemAnswer.Refused r) = refused r.number r.place
+item_said a = said_by item_values a
 
 -- record of the map by number
 abbrev pub map_record_said : MapRecordAnswer → Said (List Field)
-map_record_said (MapRecordAnswer.Shown x) = says (map_record_values x)
-map_record_said (MapRecordAnswer.Refused r) = refused r.number r.place
+map_record_said a = said_by map_record_values a
 
 -- record of GPIO data by number
 abbrev pub gpio_record_said : GpioRecordAnswer → Said (List Field)
-gpio_record_said (GpioRecordAnswer.Shown x) = says (gpio_record_values x)
-gpio_record_said (GpioRecordAnswer.Refused r) = refused r.number r.place
+gpio_record_said a = said_by gpio_record_values a

@@ -8,10 +8,9 @@ ghost use Rattle.board.specs.Answers.{item_numbered, map_record_numbered, gpio_r
 
 use board_layout::{Records, map_place, record_place, structure_place};
 use board_rules::judge;
-use chain::Found;
 use kinds::Kinds;
-use octets::{Eight, Six, Sixteen, Span};
-use verdict::{Judged, Refusal};
+use octets::Span;
+use verdict::Refusal;
 
 mod items;
 mod records;
@@ -38,7 +37,7 @@ pub struct EepromFields {
 // The fields of `$EeprMap`, and where its records lie.
 #[derive(Clone, Copy)]
 pub struct EeprMapFields {
-    pub partlabel: Sixteen,
+    pub partlabel: [u8; 16],
     pub blklength: u32,
     pub pagesize: u16,
     pub partsize: u32,
@@ -51,9 +50,9 @@ pub struct EeprMapFields {
 // The fields of `$BrdInfo`.
 #[derive(Clone, Copy)]
 pub struct BrdInfoFields {
-    pub manuname: Sixteen,
-    pub brdname: Sixteen,
-    pub brdserial: Sixteen,
+    pub manuname: [u8; 16],
+    pub brdname: [u8; 16],
+    pub brdserial: [u8; 16],
     pub boardid: u32,
     pub fabid: u32,
     pub ecid: u32,
@@ -86,8 +85,8 @@ pub struct MemCnfgFields {
 // The fields of `$MacInfo`, and where what else it holds lies.
 #[derive(Clone, Copy)]
 pub struct MacInfoFields {
-    pub nicid: Eight,
-    pub macaddr: Six,
+    pub nicid: [u8; 8],
+    pub macaddr: [u8; 6],
     pub nicnum: u16,
     pub nicdata: Span,
 }
@@ -119,49 +118,28 @@ pub struct Known {
     pub fields: Fields,
 }
 
-// What an item shows beside its signature, place and length.
-#[derive(Clone, Copy)]
-pub enum Item {
-    Known(Known),
-    NotKnown,
-}
-
-// Any item: its signature (the eight bytes as the number they spell, the first lowest), place and data length; and, where it is known, its fields.
+// Any item: its signature (the eight bytes as the number they spell, the first lowest), place and data length; and its fields; none of one that is not known.
 #[derive(Clone, Copy)]
 pub struct ShownItem {
     pub signature: u64,
     pub place: usize,
     pub length: usize,
-    pub item: Item,
-}
-
-// What is answered for an item by its number.
-#[derive(Clone, Copy)]
-pub enum ItemAnswer {
-    Shown(ShownItem),
-    Refused(Refusal),
+    pub item: Option<Known>,
 }
 
 // A record of the map.
 #[derive(Clone, Copy)]
 pub struct MapRecord {
-    pub maplabel: Sixteen,
+    pub maplabel: [u8; 16],
     pub length: u32,
     pub offset: ImageOffset,
     pub address: BusAddress,
 }
 
-// What is answered for a record of the map by its number.
-#[derive(Clone, Copy)]
-pub enum MapRecordAnswer {
-    Shown(MapRecord),
-    Refused(Refusal),
-}
-
 // A record of GPIO data.
 #[derive(Clone, Copy)]
 pub struct GpioRecord {
-    pub gpiolabel: Sixteen,
+    pub gpiolabel: [u8; 16],
     pub length: u32,
     pub offset: u32,
     pub anddata: u32,
@@ -170,72 +148,45 @@ pub struct GpioRecord {
     pub datatype: u8,
 }
 
-// What is answered for a record of GPIO data by its number.
-#[derive(Clone, Copy)]
-pub enum GpioRecordAnswer {
-    Shown(GpioRecord),
-    Refused(Refusal),
-}
+// The refusal of a number past the last one.
+const BEYOND: Refusal = Refusal {
+    number: 42,
+    place: 0,
+};
 
-// The item of a number, counted from 0 in image order.
-pub fn item_numbered(image: &[u8], kinds: Kinds, number: usize) -> ItemAnswer
+// The item of a number, counted from 0 in image order. (One function over what is shown would be no plainer than the three: it would take two closures,
+// one for the place and one for what lies there, and each of the three would still be a call of it with both.)
+#[tactic(auto, unfolding(crate::specs::Answers::item_numbered))]
+pub fn item_numbered(image: &[u8], kinds: Kinds, number: usize) -> Result<ShownItem, Refusal>
     ensures { result ≡ item_numbered kinds image.now number }
 {
-    let judgement = judge(image, kinds);
-    match judgement {
-        Judged::Refused(refusal) => ItemAnswer::Refused(refusal),
-        Judged::Accepted(_) => {
-            let Found::At(at) = structure_place(image, number) else {
-                return ItemAnswer::Refused(Refusal {
-                    number: 42,
-                    place: 0,
-                });
-            };
-            ItemAnswer::Shown(item_at(image, kinds, at as u32))
-        }
-    }
+    judge(image, kinds)?;
+    let at = structure_place(image, number).ok_or(BEYOND)?;
+    Ok(item_at(image, kinds, at as u32))
 }
 
 // The record of a number in the map.
-pub fn map_record_numbered(image: &[u8], kinds: Kinds, number: usize) -> MapRecordAnswer
+#[tactic(auto, unfolding(crate::specs::Answers::map_record_numbered))]
+pub fn map_record_numbered(image: &[u8], kinds: Kinds, number: usize) -> Result<MapRecord, Refusal>
     ensures { result ≡ map_record_numbered kinds image.now number }
 {
-    let judgement = judge(image, kinds);
-    match judgement {
-        Judged::Refused(refusal) => MapRecordAnswer::Refused(refusal),
-        Judged::Accepted(_) => {
-            let map = map_place(image) as u32;
-            let Found::At(at) = record_place(Records::Map, image, map, number) else {
-                return MapRecordAnswer::Refused(Refusal {
-                    number: 42,
-                    place: 0,
-                });
-            };
-            MapRecordAnswer::Shown(map_record_at(image, at as u32))
-        }
-    }
+    judge(image, kinds)?;
+    let map = map_place(image) as u32;
+    let at = record_place(Records::Map, image, map, number).ok_or(BEYOND)?;
+    Ok(map_record_at(image, at as u32))
 }
 
 // The record of a number in the GPIO data that are the item of a number; an item that is not known, or holds no such data, has none.
+#[tactic(auto, unfolding(crate::specs::Answers::gpio_record_numbered))]
 pub fn gpio_record_numbered(
     image: &[u8],
     kinds: Kinds,
     item: usize,
     number: usize,
-) -> GpioRecordAnswer
+) -> Result<GpioRecord, Refusal>
     ensures { result ≡ gpio_record_numbered kinds image.now item number }
 {
-    let judgement = judge(image, kinds);
-    match judgement {
-        Judged::Refused(refusal) => GpioRecordAnswer::Refused(refusal),
-        Judged::Accepted(_) => {
-            let Found::At(at) = gpio_record_of(image, kinds, item, number) else {
-                return GpioRecordAnswer::Refused(Refusal {
-                    number: 42,
-                    place: 0,
-                });
-            };
-            GpioRecordAnswer::Shown(gpio_record_at(image, at as u32))
-        }
-    }
+    judge(image, kinds)?;
+    let at = gpio_record_of(image, kinds, item, number).ok_or(BEYOND)?;
+    Ok(gpio_record_at(image, at as u32))
 }

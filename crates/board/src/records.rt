@@ -7,17 +7,17 @@ ghost use Rattle.chain.specs.Nth.{nth};
 
 use super::{BusAddress, GpioRecord, ImageOffset, MapRecord};
 use board_layout::{Records, Shape, is_known, record_place, shape_at, structure_place};
-use chain::Found;
 use kinds::Kinds;
-use octets::{byte_at, le32_at, sixteen_at};
+use octets::{byte_at, bytes_at, le32_at};
 
 // The record of the map at a place.
+#[tactic(auto, unfolding(crate::specs::Records::map_record_at))]
 pub fn map_record_at(image: &[u8], at: u32) -> MapRecord
     ensures { result ≡ map_record_at image.now at }
 {
     let p = at as usize;
     MapRecord {
-        maplabel: sixteen_at(image, p),
+        maplabel: bytes_at(image, p),
         length: le32_at(image, p + 0x10),
         offset: ImageOffset(le32_at(image, p + 0x14)),
         address: BusAddress(byte_at(image, p + 0x18)),
@@ -25,12 +25,13 @@ pub fn map_record_at(image: &[u8], at: u32) -> MapRecord
 }
 
 // The record of GPIO data at a place.
+#[tactic(auto, unfolding(crate::specs::Records::gpio_record_at))]
 pub fn gpio_record_at(image: &[u8], at: u32) -> GpioRecord
     ensures { result ≡ gpio_record_at image.now at }
 {
     let p = at as usize;
     GpioRecord {
-        gpiolabel: sixteen_at(image, p),
+        gpiolabel: bytes_at(image, p),
         length: le32_at(image, p + 0x10),
         offset: le32_at(image, p + 0x14),
         anddata: le32_at(image, p + 0x18),
@@ -44,37 +45,18 @@ pub fn gpio_record_at(image: &[u8], at: u32) -> GpioRecord
 fn is_gpio(shape: Shape) -> bool
     ensures { result ≡ is_gpio shape }
 {
-    match shape {
-        Shape::Eeprom => false,
-        Shape::EeprMap => false,
-        Shape::BrdInfo => false,
-        Shape::PromSig => false,
-        Shape::AcpiTbl => false,
-        Shape::FpgaNfo => false,
-        Shape::GpioDat => true,
-        Shape::HdCodec => false,
-        Shape::Logo => false,
-        Shape::MemCnfg => false,
-        Shape::MacInfo => false,
-        Shape::UCode => false,
-        Shape::Video => false,
-        Shape::Other => false,
-    }
+    matches!(shape, Shape::GpioDat)
 }
 
 // The place of the record of a number in the item of a number, if that holds known GPIO data.
-pub fn gpio_record_of(image: &[u8], kinds: Kinds, item: usize, number: usize) -> Found
+pub fn gpio_record_of(image: &[u8], kinds: Kinds, item: usize, number: usize) -> Option<usize>
     ensures { result ≡ gpio_records_at kinds image.now number (nth (structures image.now) item) }
 {
-    let Found::At(p) = structure_place(image, item) else {
-        return Found::Nothing;
-    };
-    let at = p as u32;
+    let at = structure_place(image, item)? as u32;
     let shape = shape_at(image, at);
-    if is_gpio(shape) {
-        if is_known(kinds, shape) {
-            return record_place(Records::Gpio, image, at, number);
-        }
+    if is_gpio(shape) && is_known(kinds, shape) {
+        record_place(Records::Gpio, image, at, number)
+    } else {
+        None
     }
-    Found::Nothing
 }

@@ -4,7 +4,7 @@ use Rattle.std.specs.Prelude.{ℕ, ◌+◌, ◌%◌, Bool, not, cond, ◌&&◌, 
 use Rattle.board_layout.specs.Layout.{length_at}
 use Rattle.board_layout.specs.Places.{HashType, EepromSig}
 use Rattle.chain.specs.First.{checks, when}
-use Rattle.chain.specs.declared.Found.{Found}
+use Rattle.chain.specs.Found.{Found}
 use Rattle.octets.specs.Bytes.{le16}
 
 -- None, MD5, SHA-1, SHA-256, SHA-384, SHA-512

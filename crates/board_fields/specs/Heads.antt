@@ -4,7 +4,7 @@ use Rattle.std.specs.Prelude.{ℕ, ◌+◌, ◌-◌, ◌%◌, Bool, not, ◌&&�
 use Rattle.board_layout.specs.Layout.{major_at, length_at}
 use Rattle.board_layout.specs.Places.{MapData, map_record_size, EepromSig}
 use Rattle.chain.specs.First.{checks, when}
-use Rattle.chain.specs.declared.Found.{Found}
+use Rattle.chain.specs.Found.{Found}
 
 -- 30h + 20h n with n at least 1
 abbrev pub map_length_fits : ℕ → Bool

@@ -1,6 +1,6 @@
 -- Rule 33 at one structure: "known structure under its fixed part (30h for `$MacInfo`, else 20h); FPGA or GPIO DataType over 4; GPIO data not whole 30h records,
 -- record Length, label, DataSize not 1, 2, 4", at the start, the field, or the label's bad byte. Checks stand in ascending order of place. Assumes nothing.
-use Rattle.std.specs.Prelude.{ℕ, ◌+◌, ◌-◌, ◌%◌, not, cond, List, eqb, ltb}
+use Rattle.std.specs.Prelude.{ℕ, ◌+◌, ◌-◌, ◌%◌, not, cond, List, eqb, ltb, Some, None}
 use Rattle.board_layout.specs.Layout.{length_at, records}
 use Rattle.board_layout.specs.Places.{FpgaDataType, GpioData, gpio_record_size}
 use Rattle.board_layout.specs.Shapes.{fixed_part}
@@ -9,8 +9,7 @@ use Rattle.board_layout.specs.declared.Shape.{Shape}
 use Rattle.board_layout.specs.declared.Shape.TheVariants.{Eeprom, EeprMap, BrdInfo, PromSig, AcpiTbl, FpgaNfo, GpioDat, HdCodec, Logo, MemCnfg, MacInfo, UCode, Video, Other}
 use Rattle.board_records.specs.Records.{bad_gpio_record}
 use Rattle.chain.specs.First.{first, or_else, when}
-use Rattle.chain.specs.declared.Found.{Found}
-use Rattle.chain.specs.declared.Found.TheVariants.{At, Nothing}
+use Rattle.chain.specs.Found.{Found}
 use Rattle.octets.specs.Bytes.{byte}
 
 -- GPIO data that are not whole records, at the start; then the records
@@ -24,21 +23,21 @@ bad_fpga s p = when (ltb 4 (byte s (p + FpgaDataType))) (p + FpgaDataType)
 
 -- what is asked of a structure that has its fixed part
 abbrev pub bad_fields : List ℕ → ℕ → Shape → Found
-bad_fields s p Eeprom = Nothing
-bad_fields s p EeprMap = Nothing
-bad_fields s p BrdInfo = Nothing
-bad_fields s p PromSig = Nothing
-bad_fields s p AcpiTbl = Nothing
+bad_fields s p Eeprom = None
+bad_fields s p EeprMap = None
+bad_fields s p BrdInfo = None
+bad_fields s p PromSig = None
+bad_fields s p AcpiTbl = None
 bad_fields s p FpgaNfo = bad_fpga s p
 bad_fields s p GpioDat = bad_gpio s p
-bad_fields s p HdCodec = Nothing
-bad_fields s p Logo = Nothing
-bad_fields s p MemCnfg = Nothing
-bad_fields s p MacInfo = Nothing
-bad_fields s p UCode = Nothing
-bad_fields s p Video = Nothing
-bad_fields s p Other = Nothing
+bad_fields s p HdCodec = None
+bad_fields s p Logo = None
+bad_fields s p MemCnfg = None
+bad_fields s p MacInfo = None
+bad_fields s p UCode = None
+bad_fields s p Video = None
+bad_fields s p Other = None
 
 -- "A field not wholly within its structure's Length is not read; rule 33 with the structure's start answers for it."
 unfoldable pub bad_inside : List ℕ → ℕ → Shape → Found
-bad_inside s p shape = cond (ltb (length_at s p) (fixed_part shape)) (At p) (bad_fields s p shape)
+bad_inside s p shape = cond (ltb (length_at s p) (fixed_part shape)) (Some p) (bad_fields s p shape)

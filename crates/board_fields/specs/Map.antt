@@ -6,7 +6,7 @@ use Rattle.board_layout.specs.Places.{PartLabel, BlkLength, PartSize, Master, Sp
 use Rattle.board_layout.specs.declared.Records.TheVariants.{Map}
 use Rattle.board_records.specs.Records.{bad_map_record}
 use Rattle.chain.specs.First.{checks, first, or_else, when}
-use Rattle.chain.specs.declared.Found.{Found}
+use Rattle.chain.specs.Found.{Found}
 use Rattle.octets.specs.Bytes.{byte, le32}
 use Rattle.octets.specs.Label.{bad_label}
 

@@ -1,5 +1,6 @@
 -- What is proved of the definitions. Assumes nothing.
 
+pub mod Checks
 pub mod Layout
 pub mod Head
 pub mod Shapes

@@ -8,7 +8,7 @@ ghost use Rattle.chain.specs.Nth.{nth};
 ghost use Rattle.board_layout.specs.Layout.{head_at, major_at, minor_at, length_at, shape_at, struct_len, end_at, covers, round16, next, structures, header_length, header_with, map_at, board_at, later_at, data_offset, record_size, records};
 ghost use Rattle.board_layout.specs.Shapes.{listed_shape, shape_of, knows};
 
-use chain::Found;
+use chain::place_of;
 use kinds::{
     ACPI_TBL, BRD_INFO, EEPR_MAP, EEPROM, FPGA_NFO, GPIO_DAT, HD_CODEC, Kinds, LOGO, MAC_INFO,
     MEM_CNFG, PROM_SIG, U_CODE, VIDEO,
@@ -86,12 +86,8 @@ pub fn shape_of(signature: u64, major: u16) -> Shape
         EEPR_MAP => Shape::EeprMap,
         BRD_INFO => Shape::BrdInfo,
         PROM_SIG => Shape::PromSig,
-        _ => {
-            if major == 1 {
-                return listed_shape(signature);
-            }
-            Shape::Other
-        }
+        _ if major == 1 => listed_shape(signature),
+        _ => Shape::Other,
     }
 }
 
@@ -100,10 +96,7 @@ pub fn is_known(kinds: Kinds, shape: Shape) -> bool
     ensures { result ≡ knows kinds shape }
 {
     match shape {
-        Shape::Eeprom => true,
-        Shape::EeprMap => true,
-        Shape::BrdInfo => true,
-        Shape::PromSig => true,
+        Shape::Eeprom | Shape::EeprMap | Shape::BrdInfo | Shape::PromSig => true,
         Shape::AcpiTbl => kinds.acpitbl,
         Shape::FpgaNfo => kinds.fpganfo,
         Shape::GpioDat => kinds.gpiodat,
@@ -116,6 +109,8 @@ pub fn is_known(kinds: Kinds, shape: Shape) -> bool
         Shape::Other => false,
     }
 }
+
+// The functions on one structure take its image and its place. Any place is good for any image, so a struct of both would have no invariant and be no plainer.
 
 // VerMajor of the structure at a place.
 pub fn major_at(image: &[u8], at: u32) -> u16
@@ -177,6 +172,7 @@ pub fn head_at(image: &[u8], at: u32) -> Head
 }
 
 // The table of the structure at a place.
+#[tactic(auto, unfolding(crate::specs::Layout::shape_at))]
 pub fn shape_at(image: &[u8], at: u32) -> Shape
     ensures { result ≡ shape_at image.now at }
 {
@@ -191,6 +187,7 @@ pub fn struct_len(image: &[u8]) -> u32
 }
 
 // Where the structure at a place ends.
+#[tactic(auto, unfolding(crate::specs::Layout::end_at))]
 pub fn end_at(image: &[u8], at: u32) -> usize
     ensures { result ≡ end_at image.now at }
 {
@@ -201,13 +198,14 @@ pub fn end_at(image: &[u8], at: u32) -> usize
 fn walked(length: u32) -> u32
     ensures { result ≡ covers length }
 {
-    if length < 16 {
-        return 16;
-    }
-    length
+    length.max(16)
 }
 
+// Each step has two functions. Those that other crates call, `next_after` and `next_place`, take any place of 32 bits and ask nothing of it. Places past
+// the first structures may need more bits, so the inner ones, `past` and `next_from`, take a wider place and ask for a bound.
+
 // Where the structure after one of this Length starts.
+#[tactic(auto, unfolding(crate::specs::Layout::round16))]
 fn past(at: usize, length: u32) -> usize
     requires { at ≤ 0x4_0000_0000 }
     ensures { result ≡ round16 (at + covers length) }
@@ -223,6 +221,7 @@ pub fn next_after(at: u32, length: u32) -> usize
 }
 
 // Where the structure after the one at a place starts.
+#[tactic(auto, unfolding(crate::specs::Layout::next))]
 fn next_from(image: &[u8], at: usize) -> usize
     requires { at ≤ 0x4_0000_0000 }
     ensures { result ≡ next image.now at }
@@ -238,6 +237,7 @@ pub fn next_place(image: &[u8], at: u32) -> usize
 }
 
 // Where the second structure starts.
+#[tactic(auto, unfolding(crate::specs::Layout::map_at))]
 pub fn map_place(image: &[u8]) -> usize
     ensures { result ≡ map_at image.now }
 {
@@ -245,6 +245,7 @@ pub fn map_place(image: &[u8]) -> usize
 }
 
 // Where the third one starts.
+#[tactic(auto, unfolding(crate::specs::Layout::board_at))]
 pub fn board_place(image: &[u8]) -> usize
     ensures { result ≡ board_at image.now }
 {
@@ -252,6 +253,7 @@ pub fn board_place(image: &[u8]) -> usize
 }
 
 // Where those after it start.
+#[tactic(auto, unfolding(crate::specs::Layout::later_at))]
 pub fn later_place(image: &[u8]) -> usize
     ensures { result ≡ later_at image.now }
 {
@@ -259,20 +261,15 @@ pub fn later_place(image: &[u8]) -> usize
 }
 
 // The place of the structure of a number.
-pub fn structure_place(image: &[u8], number: usize) -> Found
+pub fn structure_place(image: &[u8], number: usize) -> Option<usize>
     ensures { result ≡ nth (structures image.now) number }
 {
-    let end = struct_len(image) as usize;
-    let mut at = 0;
-    let mut left = number;
-    while at < end {
-        if left == 0 {
-            return Found::At(at);
-        }
-        left -= 1;
-        at = next_place(image, at as u32);
-    }
-    Found::Nothing
+    place_of(
+        |at| next_from(image, at),
+        0,
+        struct_len(image) as usize,
+        number,
+    )
 }
 
 // The Length of a header.
@@ -290,9 +287,10 @@ pub fn header_with(length: u32) -> Header
     ensures { result ≡ header_with length }
 {
     if length == 0x20 {
-        return Header::Short;
+        Header::Short
+    } else {
+        Header::Long
     }
-    Header::Long
 }
 
 // Where the records of a structure begin, counted from its start.
@@ -316,16 +314,13 @@ pub fn record_size(which: Records) -> u8
 }
 
 // The place of the record of a number, of the structure at a place.
-pub fn record_place(which: Records, image: &[u8], at: u32, number: usize) -> Found
+pub fn record_place(which: Records, image: &[u8], at: u32, number: usize) -> Option<usize>
     ensures { result ≡ nth (records which image.now at) number }
 {
     let end = end_at(image, at);
     if end <= number {
-        return Found::Nothing;
+        return None;
     }
     let place = at as usize + data_offset(which) as usize + number * record_size(which) as usize;
-    if place < end {
-        return Found::At(place);
-    }
-    Found::Nothing
+    (place < end).then_some(place)
 }

@@ -1,120 +1,93 @@
 // The fields of structures, a line for each, and the lines of records.
-use super::codes::{
-    put_board_type, put_fpga_data_type, put_gpio_data_type, put_hash_type, put_speed,
-};
-use super::text::{put_eight, put_field, put_label, put_name, put_span};
+use super::codes::{board_type, fpga_data_type, gpio_data_type, hash_type, speed};
+use super::text::{Label, Name, Part};
 use board::{
     BrdInfoFields, EeprMapFields, EepromFields, FpgaNfoFields, GpioRecord, MacInfoFields,
     MapRecord, MemCnfgFields, PromSigFields,
 };
-use console::{put, put_address, put_decimal, put_hex, put_hex16, put_hex32, put_number};
+use console::show::Address;
 use std::io;
 
-// The line of a decimal number.
-pub fn put_decimal_field(out: &impl Print, word: &[u8], n: usize) -> io::Result<()> {
-    put_field(out, word)?;
-    put_decimal(out, n)
-}
-
-// The line of a number of four hexadecimal digits.
-fn put_hex16_field(out: &impl Print, word: &[u8], n: u16) -> io::Result<()> {
-    put_field(out, word)?;
-    put_hex16(out, n)?;
-    put(out, b"h")
-}
-
-// The line of a number of eight hexadecimal digits.
-fn put_hex32_field(out: &impl Print, word: &[u8], n: u32) -> io::Result<()> {
-    put_field(out, word)?;
-    put_hex32(out, n)?;
-    put(out, b"h")
-}
-
 pub fn put_eeprom(out: &impl Print, fields: EepromFields) -> io::Result<()> {
-    put_decimal_field(out, b"StructLen", fields.structlen as usize)?;
-    put_decimal_field(out, b"CrcLength", fields.crclength as usize)?;
-    put_decimal_field(out, b"Version", fields.version as usize)
+    print!(out; "\n  StructLen {}", fields.structlen)?;
+    print!(out; "\n  CrcLength {}", fields.crclength)?;
+    print!(out; "\n  Version {}", fields.version)
 }
 
 pub fn put_map(out: &impl Print, fields: EeprMapFields) -> io::Result<()> {
-    put_field(out, b"PartLabel")?;
-    put_label(out, fields.partlabel)?;
-    put_decimal_field(out, b"BlkLength", fields.blklength as usize)?;
-    put_decimal_field(out, b"PageSize", fields.pagesize as usize)?;
-    put_decimal_field(out, b"PartSize", fields.partsize as usize)?;
-    put_decimal_field(out, b"BusNumber", fields.busnumber as usize)?;
-    put_decimal_field(out, b"Master", fields.master as usize)?;
-    put_decimal_field(out, b"Speed", fields.speed as usize)?;
-    put_speed(out, fields.speed)
+    print!(out; "\n  PartLabel {}", Label(&fields.partlabel))?;
+    print!(out; "\n  BlkLength {}", fields.blklength)?;
+    print!(out; "\n  PageSize {}", fields.pagesize)?;
+    print!(out; "\n  PartSize {}", fields.partsize)?;
+    print!(out; "\n  BusNumber {}", fields.busnumber)?;
+    print!(out; "\n  Master {}", fields.master)?;
+    print!(out; "\n  Speed {}{}", fields.speed, speed(fields.speed))
 }
 
 pub fn put_board(out: &impl Print, fields: BrdInfoFields) -> io::Result<()> {
-    put_name(out, b"ManuName", fields.manuname)?;
-    put_name(out, b"BrdName", fields.brdname)?;
-    put_name(out, b"BrdSerial", fields.brdserial)?;
-    put_hex32_field(out, b"BoardId", fields.boardid)?;
-    put_hex32_field(out, b"FabId", fields.fabid)?;
-    put_hex32_field(out, b"EcId", fields.ecid)?;
-    put_decimal_field(out, b"BoardType", fields.boardtype as usize)?;
-    put_board_type(out, fields.boardtype)
+    print!(out; "\n  ManuName {}", Name(&fields.manuname))?;
+    print!(out; "\n  BrdName {}", Name(&fields.brdname))?;
+    print!(out; "\n  BrdSerial {}", Name(&fields.brdserial))?;
+    print!(out; "\n  BoardId {:08X}h", fields.boardid)?;
+    print!(out; "\n  FabId {:08X}h", fields.fabid)?;
+    print!(out; "\n  EcId {:08X}h", fields.ecid)?;
+    print!(out;
+        "\n  BoardType {}{}",
+        fields.boardtype,
+        board_type(fields.boardtype)
+    )
 }
 
 pub fn put_prom_sig(out: &impl Print, fields: PromSigFields) -> io::Result<()> {
-    put_hex16_field(out, b"HashType", fields.hashtype)?;
-    put_hash_type(out, fields.hashtype)?;
-    put_span(out, b"EepromSig", fields.eepromsig)
+    print!(out;
+        "\n  HashType {:04X}h{}",
+        fields.hashtype,
+        hash_type(fields.hashtype)
+    )?;
+    print!(out; "\n  EepromSig {}", Part(fields.eepromsig))
 }
 
 pub fn put_fpga(out: &impl Print, fields: FpgaNfoFields) -> io::Result<()> {
-    put_decimal_field(out, b"DataType", fields.datatype as usize)?;
-    put_fpga_data_type(out, fields.datatype)?;
-    put_decimal_field(out, b"DevNum", fields.devnum as usize)?;
-    put_decimal_field(out, b"FuncNum", fields.funcnum as usize)?;
-    put_span(out, b"FpgaData", fields.fpgadata)
+    print!(out;
+        "\n  DataType {}{}",
+        fields.datatype,
+        fpga_data_type(fields.datatype)
+    )?;
+    print!(out; "\n  DevNum {}", fields.devnum)?;
+    print!(out; "\n  FuncNum {}", fields.funcnum)?;
+    print!(out; "\n  FpgaData {}", Part(fields.fpgadata))
 }
 
 pub fn put_memory(out: &impl Print, fields: MemCnfgFields) -> io::Result<()> {
-    put_hex16_field(out, b"SpdSlot", fields.spdslot)?;
-    put_span(out, b"MemData", fields.memdata)
+    print!(out; "\n  SpdSlot {:04X}h", fields.spdslot)?;
+    print!(out; "\n  MemData {}", Part(fields.memdata))
 }
 
 pub fn put_mac(out: &impl Print, fields: MacInfoFields) -> io::Result<()> {
-    put_field(out, b"NicId")?;
-    put_eight(out, fields.nicid)?;
-    put_field(out, b"MacAddr")?;
-    put_address(out, fields.macaddr)?;
-    put_decimal_field(out, b"NicNum", fields.nicnum as usize)?;
-    put_span(out, b"NicData", fields.nicdata)
+    print!(out; "\n  NicId {}", Name(&fields.nicid))?;
+    print!(out; "\n  MacAddr {}", Address(fields.macaddr))?;
+    print!(out; "\n  NicNum {}", fields.nicnum)?;
+    print!(out; "\n  NicData {}", Part(fields.nicdata))
 }
 
 // The line of a record begins with its number.
-fn put_record_number(out: &impl Print, number: usize) -> io::Result<()> {
-    put(out, b"\n    ")?;
-    put_decimal(out, number)?;
-    put(out, b" ")
-}
-
 pub fn put_map_record(out: &impl Print, number: usize, record: MapRecord) -> io::Result<()> {
-    put_record_number(out, number)?;
-    put_label(out, record.maplabel)?;
-    put_number(out, b"Length", record.length as usize)?;
-    put_number(out, b"Offset", record.offset.0 as usize)?;
-    put(out, b" Address ")?;
-    put_hex(out, record.address.0)?;
-    put(out, b"h")
+    print!(out; "\n    {number} {}", Label(&record.maplabel))?;
+    print!(out; " Length {} Offset {}", record.length, record.offset.0)?;
+    print!(out; " Address {:02X}h", record.address.0)
 }
 
 pub fn put_gpio_record(out: &impl Print, number: usize, record: GpioRecord) -> io::Result<()> {
-    put_record_number(out, number)?;
-    put_label(out, record.gpiolabel)?;
-    put_number(out, b"Length", record.length as usize)?;
-    put_number(out, b"Offset", record.offset as usize)?;
-    put(out, b" AndData ")?;
-    put_hex32(out, record.anddata)?;
-    put(out, b"h OrData ")?;
-    put_hex32(out, record.ordata)?;
-    put(out, b"h")?;
-    put_number(out, b"DataSize", record.datasize as usize)?;
-    put_number(out, b"DataType", record.datatype as usize)?;
-    put_gpio_data_type(out, record.datatype)
+    print!(out; "\n    {number} {}", Label(&record.gpiolabel))?;
+    print!(out; " Length {} Offset {}", record.length, record.offset)?;
+    print!(out;
+        " AndData {:08X}h OrData {:08X}h",
+        record.anddata, record.ordata
+    )?;
+    print!(out;
+        " DataSize {} DataType {}{}",
+        record.datasize,
+        record.datatype,
+        gpio_data_type(record.datatype)
+    )
 }

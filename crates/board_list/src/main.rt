@@ -2,7 +2,7 @@
 
 #![tactic(auto)]
 
-use console::{at_end, complain, read_full};
+use console::program::with_image;
 use std::io;
 
 mod codes;
@@ -12,13 +12,7 @@ mod text;
 
 // Over 65,536 bytes are refused whatever they are: so 65,537 bytes are read, and no more.
 fn main(rt: HostRuntime) -> io::Result<()> {
-    let mut stdin = rt.stdin();
-    let mut image = [0u8; 65537];
-    let n = read_full(&mut stdin, &mut image);
-    if n < 65537 {
-        if !at_end(&mut stdin) {
-            return complain(&rt.stderr(), b"board_list: standard input cannot be read\n");
-        }
-    }
-    lines::list(&rt.stdout(), &image[..n])
+    with_image(&rt, "board_list", &mut [0u8; 65537], |image| {
+        lines::list(&rt.stdout(), image)
+    })
 }

@@ -1,5 +1,5 @@
 -- By computation: what is found in a reserved field that its structure's end cuts, and which labels of a map's records equal an earlier one. Assumes nothing.
-use Rattle.std.specs.Prelude.{ℕ, ◌+◌, ◌*◌, ◌≡◌, refl, length, replicate}
+use Rattle.std.specs.Prelude.{ℕ, ◌+◌, ◌*◌, ◌≡◌, refl, length, replicate, Some, None}
 use mathlib.Core.List.{List, [], ◌∷◌, ◌++◌, map, flatten}
 use Rattle.board_layout.specs.Layout.{end_at, records}
 use Rattle.board_layout.specs.declared.Records.TheVariants.{Map}
@@ -7,8 +7,7 @@ use Rattle.board_records.specs.Records.{field_used, repeated_label}
 use Rattle.chain.specs.Chain.{visit, chain}
 use Rattle.chain.specs.Fill.{tab}
 use Rattle.chain.specs.First.{first}
-use Rattle.chain.specs.declared.Found.{Found}
-use Rattle.chain.specs.declared.Found.TheVariants.{At, Nothing}
+use Rattle.chain.specs.Found.{Found}
 use Rattle.octets.specs.Bytes.{le32}
 use Rattle.octets.specs.Runs.{nonzero, difference, same_run}
 
@@ -17,7 +16,7 @@ abbrev image : List ℕ
 image = 7 ∷ 7 ∷ 7 ∷ 0 ∷ 9 ∷ 8 ∷ 7 ∷ []
 
 -- the structure ends behind the field, right after it, before its last byte, and where it starts: it is read only if it lies wholly within
-cut-field : map (λ end. field_used image 2 5 end 1) (7 ∷ 6 ∷ 5 ∷ 3 ∷ []) ≡ At 4 ∷ At 4 ∷ Nothing ∷ Nothing ∷ []
+cut-field : map (λ end. field_used image 2 5 end 1) (7 ∷ 6 ∷ 5 ∷ 3 ∷ []) ≡ Some 4 ∷ Some 4 ∷ None ∷ None ∷ []
 unfolding nonzero first chain visit
 cut-field = refl
 
@@ -59,20 +58,20 @@ row l f = record { labels = l; found = f }
 
 abbrev rows : List Row
 rows =
-    row (top1 ∷ top2 ∷ []) Nothing
+    row (top1 ∷ top2 ∷ []) None
     -- next to each other, and apart
-    ∷ row (top1 ∷ top1 ∷ []) (At 0x50)
-    ∷ row (top1 ∷ top2 ∷ top1 ∷ []) (At 0x70)
+    ∷ row (top1 ∷ top1 ∷ []) (Some 0x50)
+    ∷ row (top1 ∷ top2 ∷ top1 ∷ []) (Some 0x70)
     -- three of one name: the second of them
-    ∷ row (top1 ∷ top1 ∷ top1 ∷ []) (At 0x50)
+    ∷ row (top1 ∷ top1 ∷ top1 ∷ []) (Some 0x50)
     -- two pairs: the label that is first repeated, and not the one that is first of all
-    ∷ row (top1 ∷ top2 ∷ top2 ∷ top1 ∷ []) (At 0x70)
+    ∷ row (top1 ∷ top2 ∷ top2 ∷ top1 ∷ []) (Some 0x70)
     -- empty labels are labels like any other
-    ∷ row (empty ∷ top1 ∷ empty ∷ []) (At 0x70)
+    ∷ row (empty ∷ top1 ∷ empty ∷ []) (Some 0x70)
     -- one byte differs, the last
-    ∷ row (letters 0x21 ∷ letters 0x3F ∷ []) Nothing
+    ∷ row (letters 0x21 ∷ letters 0x3F ∷ []) None
     -- PartLabel is no record's
-    ∷ row (rig ∷ top1 ∷ []) Nothing
+    ∷ row (rig ∷ top1 ∷ []) None
     ∷ []
 
 repeated-labels : map (λ (r : Row). first (repeated_label (map_of r.labels) 0) (records Map (map_of r.labels) 0)) rows ≡ map (λ (r : Row). r.found) rows

@@ -1,4 +1,3 @@
 -- The definitions that the contracts cite, and an example of them. Assumes nothing.
 pub mod Records
-pub mod Tests
 pub mod Examples

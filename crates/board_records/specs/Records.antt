@@ -1,13 +1,12 @@
 -- What rules 30, 34, 32 and 33 say of one record, of a map or of GPIO data. Checks stand in ascending order of place; products are exact. Assumes nothing.
-use Rattle.std.specs.Prelude.{ℕ, ◌+◌, ◌-◌, ◌*◌, ◌/◌, Bool, not, cond, ◌||◌, List, [], ◌∷◌, eqb, ltb, leb}
+use Rattle.std.specs.Prelude.{ℕ, ◌+◌, ◌-◌, ◌*◌, ◌/◌, Bool, not, cond, ◌||◌, List, [], ◌∷◌, eqb, ltb, leb, None}
 use Rattle.board_layout.specs.Layout.{end_at}
 use Rattle.board_layout.specs.Places.{BlkLength, MapData, MapLabel, MapLength, MapOffset, Address, map_record_size, GpioLabel, GpioLength, DataSize, GpioDataType, gpio_record_size}
 use Rattle.board_layout.specs.declared.Records.{Records}
 use Rattle.board_layout.specs.declared.Records.TheVariants.{Map, Gpio}
 use Rattle.chain.specs.Chain.{chain, ahead}
 use Rattle.chain.specs.First.{checks, first, when}
-use Rattle.chain.specs.declared.Found.{Found}
-use Rattle.chain.specs.declared.Found.TheVariants.{Nothing}
+use Rattle.chain.specs.Found.{Found}
 use Rattle.octets.specs.Bytes.{byte, le32}
 use Rattle.octets.specs.Label.{bad_label}
 use Rattle.octets.specs.Runs.{same_run, nonzero}
@@ -58,7 +57,7 @@ bad_gpio_record s r =
 -- ---- 32: a reserved field. "A field not wholly within its structure's Length is not read"
 -- the first byte that is not zero, from one offset up to another of what starts at p; looked for only if the field ends by `end`, where the structure ends
 abbrev pub field_used : List ℕ → ℕ → ℕ → ℕ → ℕ → Found
-field_used s from to end p = cond (leb (p + to) end) (nonzero s p from to) Nothing
+field_used s from to end p = cond (leb (p + to) end) (nonzero s p from to) None
 
 -- the Reserved field of a record: a map record's from 19h up to 20h, a GPIO record's from 22h up to 30h
 abbrev pub record_from : Records → ℕ

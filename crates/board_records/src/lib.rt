@@ -3,25 +3,19 @@
 
 #![tactic(auto)]
 
-ghost use Rattle.std.specs.Prelude.{◌≡◌, ◌*◌, ◌<◌};
-ghost use Rattle.board_records.specs.Records.{map_number, bad_map_record, repeated_label, data_size_fits, bad_gpio_record, field_used, record_from, record_to};
-ghost use Rattle.board_records.specs.Tests.{records_of, asked_of_record};
+ghost use Rattle.std.specs.Prelude.{ℕ, ◌≡◌, ◌+◌, ◌*◌, ◌<◌, ◌^◌, ◌&&◌, eqb};
+ghost use Rattle.board_records.specs.Records.{map_number, bad_map_record, repeated_label, data_size_fits, bad_gpio_record, field_used, record_from, record_to, record_used};
 ghost use Rattle.board_layout.specs.Layout.{records};
+ghost use Rattle.board_layout.specs.declared.Records.TheVariants.{Map, Gpio};
+ghost use Rattle.chain.specs.Along.{Asks};
 ghost use Rattle.chain.specs.First.{first};
+ghost use Rattle.chain.specs.Found.{Found};
+ghost use Rattle.octets.specs.Bytes.{le64};
 
 use board_layout::{Records, data_offset, end_at, record_size};
-use chain::Found;
+use chain::first_along;
 use octets::label::bad_label;
 use octets::{byte_at, first_nonzero, le32_at, le64_at};
-
-// What is asked of a record: rules 30 and 34 of a map's, rule 33 of GPIO data's, rule 32 of either.
-#[derive(Clone, Copy)]
-pub enum RecordRule {
-    MapFields,
-    RepeatedLabel,
-    GpioFields,
-    Reserved(Records),
-}
 
 // The product: it has no more than 64 bits.
 pub fn times(a: u32, b: u32) -> u64
@@ -31,36 +25,28 @@ pub fn times(a: u32, b: u32) -> u64
 }
 
 // Rule 32 at one field of what starts at a place: the offsets from `from` up to `to`, if the field ends by `end`.
-pub fn field_used(image: &[u8], from: u8, to: u8, end: usize, at: usize) -> Found
+pub fn field_used(image: &[u8], from: u8, to: u8, end: usize, at: usize) -> Option<usize>
     ensures { result ≡ field_used image.now from to end at }
 {
-    if to as usize <= end {
-        if at <= end - to as usize {
-            return first_nonzero(image, at, from as usize, to as usize);
-        }
+    let last = end.checked_sub(to as usize)?;
+    if last < at {
+        return None;
     }
-    Found::Nothing
+    first_nonzero(image, at, from as usize, to as usize)
 }
 
-// Where the reserved field of a record begins.
-fn record_from(which: Records) -> u8
-    ensures { result ≡ record_from which }
+// The reserved field of a record: the offset where it begins, and the one where it ends.
+fn reserved(which: Records) -> (u8, u8)
+    ensures { result ≡ (record_from which, record_to which) }
 {
     match which {
-        Records::Map => 0x19,
-        Records::Gpio => 0x22,
+        Records::Map => (0x19, 0x20),
+        Records::Gpio => (0x22, 0x30),
     }
 }
 
-// Where it ends.
-fn record_to(which: Records) -> u8
-    ensures { result ≡ record_to which }
-{
-    match which {
-        Records::Map => 0x20,
-        Records::Gpio => 0x30,
-    }
-}
+// The bound on a record's place stands in each contract below. A struct of the image and the place, with the bound as its invariant, would be no plainer:
+// each closure that is given to `first_record` would have to build one.
 
 // The number of the record at a place, of the map at another.
 fn record_number(map: u32, at: usize) -> u32
@@ -68,128 +54,134 @@ fn record_number(map: u32, at: usize) -> u32
     ensures { result ≡ map_number map at }
 {
     let start = map as usize + 0x30;
-    if at < start {
-        return 0;
-    }
-    ((at - start) / 0x20) as u32
+    (at.saturating_sub(start) / 0x20) as u32
 }
 
 // Rule 30 at the record at a place, of the map at another.
-fn bad_map_record(image: &[u8], map: u32, at: usize) -> Found
+fn bad_map_record(image: &[u8], map: u32, at: usize) -> Option<usize>
     requires { at < 0x4_0000_0000 }
     ensures { result ≡ bad_map_record image.now map at }
 {
-    let found = bad_label(image, at);
-    if let Found::At(_) = found {
-        return found;
-    }
-    if le32_at(image, at + 0x10) != 0x20 {
-        return Found::At(at + 0x10);
-    }
     let block = le32_at(image, map as usize + 0x20);
-    if le32_at(image, at + 0x14) as u64 != times(record_number(map, at), block) {
-        return Found::At(at + 0x14);
-    }
-    if 0x7F < byte_at(image, at + 0x18) {
-        return Found::At(at + 0x18);
-    }
-    Found::Nothing
+    let offset = times(record_number(map, at), block);
+    bad_label(image, at)
+        .or((le32_at(image, at + 0x10) != 0x20).then_some(at + 0x10))
+        .or((le32_at(image, at + 0x14) as u64 != offset).then_some(at + 0x14))
+        .or((0x7F < byte_at(image, at + 0x18)).then_some(at + 0x18))
 }
 
-// Rule 34 at the record at a place, of the map at another: its label, where an earlier record has the same. Labels are compared as two numbers of eight bytes.
-fn repeated_label(image: &[u8], map: u32, at: usize) -> Found
+// Whether the sixteen bytes at a place are a label, which is given as two numbers of eight bytes.
+fn has_label(image: &[u8], at: usize, low: u64, high: u64) -> bool
+    requires { at < 0x4_0000_0000 }
+    ensures { result ≡ eqb (le64 image.now at) low && eqb (le64 image.now (at + 8)) high }
+{
+    le64_at(image, at) == low && le64_at(image, at + 8) == high
+}
+
+// Rule 34 at the record at a place, of the map at another: its label, where an earlier record has the same.
+fn repeated_label(image: &[u8], map: u32, at: usize) -> Option<usize>
     requires { at < 0x4_0000_0000 }
     ensures { result ≡ repeated_label image.now map at }
 {
     let low = le64_at(image, at);
     let high = le64_at(image, at + 8);
-    let mut earlier = map as usize + 0x30;
-    while earlier < at {
-        if le64_at(image, earlier) == low {
-            if le64_at(image, earlier + 8) == high {
-                return Found::At(at);
-            }
-        }
-        earlier += 0x20;
-    }
-    Found::Nothing
+    first_along(
+        |earlier| has_label(image, earlier, low, high).then_some(at),
+        |earlier| earlier + 0x20,
+        map as usize + 0x30,
+        at,
+    )
 }
 
 // Whether a GPIO record's DataSize is good.
 fn is_data_size(n: u8) -> bool
     ensures { result ≡ data_size_fits n }
 {
-    if n == 1 {
-        return true;
-    }
-    if n == 2 {
-        return true;
-    }
-    n == 4
+    matches!(n, 1 | 2 | 4)
 }
 
 // Rule 33 at the GPIO record at a place.
-fn bad_gpio_record(image: &[u8], at: usize) -> Found
+fn bad_gpio_record(image: &[u8], at: usize) -> Option<usize>
     requires { at < 0x4_0000_0000 }
     ensures { result ≡ bad_gpio_record image.now at }
 {
-    let found = bad_label(image, at);
-    if let Found::At(_) = found {
-        return found;
-    }
-    if le32_at(image, at + 0x10) != 0x30 {
-        return Found::At(at + 0x10);
-    }
-    if is_data_size(byte_at(image, at + 0x20)) {
-        if 4 < byte_at(image, at + 0x21) {
-            return Found::At(at + 0x21);
-        }
-        return Found::Nothing;
-    }
-    Found::At(at + 0x20)
+    bad_label(image, at)
+        .or((le32_at(image, at + 0x10) != 0x30).then_some(at + 0x10))
+        .or((!is_data_size(byte_at(image, at + 0x20))).then_some(at + 0x20))
+        .or((4 < byte_at(image, at + 0x21)).then_some(at + 0x21))
 }
 
-// Which records a rule is about.
-fn records_of(rule: RecordRule) -> Records
-    ensures { result ≡ records_of rule }
+// Rule 32 at the record at a place, of the structure at another.
+fn record_used(which: Records, image: &[u8], structure: u32, at: usize) -> Option<usize>
+    ensures { result ≡ record_used which image.now structure at }
 {
-    match rule {
-        RecordRule::MapFields => Records::Map,
-        RecordRule::RepeatedLabel => Records::Map,
-        RecordRule::GpioFields => Records::Gpio,
-        RecordRule::Reserved(which) => which,
-    }
+    let (from, to) = reserved(which);
+    field_used(image, from, to, end_at(image, structure), at)
 }
 
-// What is asked of the record at a place, of the structure at another.
-fn ask_record(rule: RecordRule, image: &[u8], structure: u32, at: usize) -> Found
-    requires { at < 0x4_0000_0000 }
-    ensures { result ≡ asked_of_record rule image.now structure at }
+// What a rule says first along the records of the structure at a place.
+fn first_record<R: Fn(usize) -> Option<usize>>(
+    which: Records,
+    image: &[u8],
+    structure: u32,
+    rule: R,
+) -> Option<usize>
+    requires askable { (p : ℕ) → p < 2 ^ 33 → R.pre rule p }
+    ensures { (said : ℕ → Found) → Asks (R.post rule) (2 ^ 33) said → result ≡ first said (records which image.now structure) }
 {
-    match rule {
-        RecordRule::MapFields => bad_map_record(image, structure, at),
-        RecordRule::RepeatedLabel => repeated_label(image, structure, at),
-        RecordRule::GpioFields => bad_gpio_record(image, at),
-        RecordRule::Reserved(which) => {
-            let end = end_at(image, structure);
-            field_used(image, record_from(which), record_to(which), end, at)
-        }
-    }
+    let size = record_size(which) as usize;
+    first_along(
+        rule,
+        |at| at + size,
+        structure as usize + data_offset(which) as usize,
+        end_at(image, structure),
+    )
 }
 
-// The first answer along the records of the structure at a place.
-pub fn first_record(rule: RecordRule, image: &[u8], structure: u32) -> Found
-    ensures { result ≡ first (asked_of_record rule image.now structure) (records (records_of rule) image.now structure) }
+// Rule 30 at the records of the map at a place.
+pub fn bad_map_records(image: &[u8], at: u32) -> Option<usize>
+    ensures { result ≡ first (bad_map_record image.now at) (records Map image.now at) }
 {
-    let end = end_at(image, structure);
-    let size = record_size(records_of(rule)) as usize;
-    let mut at = structure as usize + data_offset(records_of(rule)) as usize;
-    while at < end {
-        let found = ask_record(rule, image, structure, at);
-        if let Found::At(_) = found {
-            return found;
-        }
-        at += size;
-    }
-    Found::Nothing
+    first_record(
+        Records::Map,
+        image,
+        at,
+        |record| bad_map_record(image, at, record),
+    )
+}
+
+// Rule 34 at the records of the map at a place.
+pub fn repeated_labels(image: &[u8], at: u32) -> Option<usize>
+    ensures { result ≡ first (repeated_label image.now at) (records Map image.now at) }
+{
+    first_record(
+        Records::Map,
+        image,
+        at,
+        |record| repeated_label(image, at, record),
+    )
+}
+
+// Rule 33 at the records of the GPIO data at a place.
+pub fn bad_gpio_records(image: &[u8], at: u32) -> Option<usize>
+    ensures { result ≡ first (bad_gpio_record image.now) (records Gpio image.now at) }
+{
+    first_record(
+        Records::Gpio,
+        image,
+        at,
+        |record| bad_gpio_record(image, record),
+    )
+}
+
+// Rule 32 at the records of the structure at a place.
+pub fn records_used(which: Records, image: &[u8], at: u32) -> Option<usize>
+    ensures { result ≡ first (record_used which image.now at) (records which image.now at) }
+{
+    first_record(
+        which,
+        image,
+        at,
+        |record| record_used(which, image, at, record),
+    )
 }

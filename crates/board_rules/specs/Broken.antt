@@ -1,6 +1,6 @@
 -- Rules 20 to 34 as the rows of the papers' table: at which places each is broken, with a case for each clause of its wording, in its order. Paper 01, "Refusal
 -- numbers and their order", and paper 02, R-2 and R-6. What the judge looks for (Rules.antt) is proved to be the smallest such place. Assumes nothing.
-use Rattle.std.specs.Prelude.{ℕ, ◌+◌, ◌*◌, ◌≤◌, ◌<◌, true, false, List, [], ◌∷◌, ◌⊎◌, ◌≡◌, length}
+use Rattle.std.specs.Prelude.{ℕ, ◌+◌, ◌*◌, ◌≤◌, ◌<◌, true, false, List, [], ◌∷◌, ◌⊎◌, ◌≡◌, length, Some, None}
 use Rattle.board_fields.specs.Hash.{hash_size, is_signed, hash_type, is_signable}
 use Rattle.board_layout.specs.Layout.{signature_at, major_at, minor_at, length_at, shape_at, struct_len, end_at, next, structures, records, map_count}
 use Rattle.board_layout.specs.Places.{head_size, StructLen, Crc32, CrcLength, HashType, EepromSig, PartLabel, BlkLength, PartSize, Master, Speed, MapLabel, MapLength, MapOffset, Address, map_record_size, BoardType, FpgaDataType, GpioData, GpioLabel, GpioLength, DataSize, GpioDataType, gpio_record_size}
@@ -12,7 +12,6 @@ use Rattle.board_records.specs.Records.{record_from, record_to}
 use Rattle.board_rules.specs.Rules.{check_over}
 use Rattle.chain.specs.Finds.{Among, Nowhere}
 use Rattle.chain.specs.Nth.{nth}
-use Rattle.chain.specs.declared.Found.TheVariants.{At, Nothing}
 use Rattle.kinds.specs.Signatures.{eeprom, eepr_map, brd_info, prom_sig}
 use Rattle.kinds.specs.declared.Kinds.{Kinds}
 use Rattle.octets.specs.Bytes.{byte, le16, le32}
@@ -26,10 +25,10 @@ module _ (k : Kinds) (s : List ℕ) where
   StructureAt p = Among (structures s) p
 
   abbrev pub Second : ℕ → Type 0
-  Second p = nth (structures s) 1 ≡ At p
+  Second p = nth (structures s) 1 ≡ Some p
 
   abbrev pub Third : ℕ → Type 0
-  Third p = nth (structures s) 2 ≡ At p
+  Third p = nth (structures s) 2 ≡ Some p
 
   abbrev pub PromSigAt : ℕ → Type 0
   PromSigAt p = StructureAt p × (signature_at s p ≡ prom_sig)
@@ -85,10 +84,10 @@ module _ (k : Kinds) (s : List ℕ) where
   -- 25: second not `$EeprMap`, third not `$BrdInfo`, a later one of these or `$Eeprom$`, or `$PromSig` not last; its start, or StructLen if absent
   pub data Broken25 (q : ℕ) : Type 0 where
     second_other : Second q → (signature_at s q ≡ eepr_map → ⊥) → Broken25 q
-    second_absent : nth (structures s) 1 ≡ Nothing → q ≡ struct_len s → Broken25 q
+    second_absent : nth (structures s) 1 ≡ None → q ≡ struct_len s → Broken25 q
     third_other : Third q → (signature_at s q ≡ brd_info → ⊥) → Broken25 q
-    third_absent : nth (structures s) 2 ≡ Nothing → q ≡ struct_len s → Broken25 q
-    later_again : (i : ℕ) → 3 ≤ i → nth (structures s) i ≡ At q → (signature_at s q ≡ eepr_map) ⊎ (signature_at s q ≡ brd_info) ⊎ (signature_at s q ≡ eeprom) → Broken25 q
+    third_absent : nth (structures s) 2 ≡ None → q ≡ struct_len s → Broken25 q
+    later_again : (i : ℕ) → 3 ≤ i → nth (structures s) i ≡ Some q → (signature_at s q ≡ eepr_map) ⊎ (signature_at s q ≡ brd_info) ⊎ (signature_at s q ≡ eeprom) → Broken25 q
     prom_sig_not_last : PromSigAt q → (p : ℕ) → StructureAt p → q < p → Broken25 q
 
   -- 26: VerMajor not 1 in map, board or `$PromSig`; board Length not 60h; map Length not 30h + 20h n with n at least 1; `$PromSig` Length under 20h; its start
@@ -128,12 +127,12 @@ module _ (k : Kinds) (s : List ℕ) where
     master_over1 : (m : ℕ) → Second m → q ≡ m + Master → 1 < byte s q → Broken30 q
     speed_over3 : (m : ℕ) → Second m → q ≡ m + Speed → 3 < byte s q → Broken30 q
     record_length : (m r : ℕ) → Second m → Among (records Map s m) r → q ≡ r + MapLength → (le32 s q ≡ map_record_size → ⊥) → Broken30 q
-    record_offset : (m j r : ℕ) → Second m → nth (records Map s m) j ≡ At r → q ≡ r + MapOffset → (le32 s q ≡ j * le32 s (m + BlkLength) → ⊥) → Broken30 q
+    record_offset : (m j r : ℕ) → Second m → nth (records Map s m) j ≡ Some r → q ≡ r + MapOffset → (le32 s q ≡ j * le32 s (m + BlkLength) → ⊥) → Broken30 q
     address_over7_f : (m r : ℕ) → Second m → Among (records Map s m) r → q ≡ r + Address → 0x7F < byte s q → Broken30 q
 
   -- 34: two map records whose sixteen label bytes are equal; the first label that equals an earlier one
   pub data Broken34 (q : ℕ) : Type 0 where
-    label_repeated : (m i j e r : ℕ) → Second m → nth (records Map s m) i ≡ At e → nth (records Map s m) j ≡ At r → i < j
+    label_repeated : (m i j e r : ℕ) → Second m → nth (records Map s m) i ≡ Some e → nth (records Map s m) j ≡ Some r → i < j
         → label s (e + MapLabel) ≡ label s (r + MapLabel) → q ≡ r + MapLabel → Broken34 q
 
   -- 31: BoardType over 1; the field

@@ -1,7 +1,7 @@
 -- The judge's answers by computation: an image of case 13's layout (one record: map at 30h, board at 80h, StructLen E0h), the same with the short header (map at
 -- 20h, board at 70h, StructLen D0h), and what one change makes of them.
 -- Further cases are run. Assumes nothing.
-use Rattle.std.specs.Prelude.{ℕ, ◌+◌, ◌*◌, ◌/◌, ◌%◌, List, [], ◌∷◌, ◌++◌, map, ◌≡◌, refl, replicate}
+use Rattle.std.specs.Prelude.{ℕ, ◌+◌, ◌*◌, ◌/◌, ◌%◌, List, [], ◌∷◌, ◌++◌, map, ◌≡◌, refl, replicate, Some, None, Ok}
 use Rattle.board_fields.specs.Hash.{bad_hash, bad_hash_of, hash_size}
 use Rattle.board_fields.specs.Heads.{bad_map_head, bad_board_head, bad_prom_sig_head}
 use Rattle.board_fields.specs.Inside.{bad_inside}
@@ -15,15 +15,13 @@ use Rattle.board_rules.specs.Rules.{rule20, rule21, rule22, rule23, rule24, rule
 use Rattle.chain.specs.Chain.{visit, chain}
 use Rattle.chain.specs.Fill.{tab}
 use Rattle.chain.specs.First.{first}
-use Rattle.chain.specs.declared.Found.TheVariants.{At, Nothing}
 use Rattle.crc.specs.Crc32.{crc32, shift, shifts, step32}
 use Rattle.kinds.specs.Kinds.{all, full, bare}
 use Rattle.octets.specs.Bytes.{le16, le32, le64}
 use Rattle.octets.specs.Label.{is_text, is_label_text, text_end, bad_label}
 use Rattle.octets.specs.Runs.{nonzero, difference, same_run}
 use Rattle.verdict.specs.Verdict.{refusal}
-use Rattle.verdict.specs.declared.Judged.{Judged}
-use Rattle.verdict.specs.declared.Judged.TheVariants.{Accepted}
+use Rattle.verdict.specs.Answers.{Judged}
 
 -- ---- parts of an image
 abbrev pub zeros : ℕ → List ℕ
@@ -136,16 +134,16 @@ early-hold = refl
 abbrev checked : List Row
 checked =
     -- cases 10 and 13: the label is "top1", '$' and eleven zeros
-    row (image 0xE0 0x971449AD 0xE0 []) (Accepted 3)
+    row (image 0xE0 0x971449AD 0xE0 []) (Ok 3)
     -- the same with the short header
-    ∷ row (short 0xD0 0xEB3F8F78 0xD0 ++ eepr_map 2 ++ brd_info 0x60 0) (Accepted 3)
+    ∷ row (short 0xD0 0xEB3F8F78 0xD0 ++ eepr_map 2 ++ brd_info 0x60 0) (Ok 3)
     -- bytes lent past StructLen
-    ∷ row (image 0xE0 0x971449AD 0xE0 (1 ∷ 2 ∷ 3 ∷ [])) (Accepted 3)
+    ∷ row (image 0xE0 0x971449AD 0xE0 (1 ∷ 2 ∷ 3 ∷ [])) (Ok 3)
     -- 27: one bit of Crc32; a CrcLength that Crc32 fits
     ∷ row (image 0xE0 0x971449AC 0xE0 []) (refusal 27 0x14)
     ∷ row (image 0xE0 0xAB712540 0xE1 []) (refusal 27 0x18)
     -- the check covers `$PromSig` up to EepromSig; 27: the check over EepromSig too
-    ∷ row (image 0x110 0x6519E838 0x100 (prom_sig 1)) (Accepted 4)
+    ∷ row (image 0x110 0x6519E838 0x100 (prom_sig 1)) (Ok 4)
     ∷ row (image 0x110 0x6F8BA61D 0x110 (prom_sig 1)) (refusal 27 0x14)
     -- 29: type 6
     ∷ row (image 0x110 0x98E0104D 0x100 (prom_sig 6)) (refusal 29 0xF0)
@@ -163,12 +161,12 @@ behind first n =
     ++ zeros (0x20 + 0x20 * n)
     ++ brd_info 0x60 0
 
-case-12 : map rule28 (behind (header 0 0 0) 122 ∷ behind (header 0 0 0) 123 ∷ []) ≡ Nothing ∷ At 0xFC0 ∷ []
+case-12 : map rule28 (behind (header 0 0 0) 122 ∷ behind (header 0 0 0) 123 ∷ []) ≡ None ∷ Some 0xFC0 ∷ []
 unfolding rule28 end_at round16 next map_at board_at tab le32
 case-12 = refl
 
 -- "122 map records remain the most: they end at FF0h with the short header", and 123 at 1010h
-short-12 : map rule28 (behind (short 0 0 0) 122 ∷ behind (short 0 0 0) 123 ∷ []) ≡ Nothing ∷ At 0xFB0 ∷ []
+short-12 : map rule28 (behind (short 0 0 0) 122 ∷ behind (short 0 0 0) 123 ∷ []) ≡ None ∷ Some 0xFB0 ∷ []
 unfolding rule28 end_at round16 next map_at board_at tab le32
 short-12 = refl
 
@@ -213,7 +211,7 @@ top2 = 0x74 ∷ 0x6F ∷ 0x70 ∷ 0x32 ∷ []
 
 abbrev labels : List Row
 labels =
-    row (two 0x5E808744 0 top1 top2 2 0) (Accepted 3)
+    row (two 0x5E808744 0 top1 top2 2 0) (Ok 3)
     -- 34 "comes after 30": Speed 4
     ∷ row (two 0x50BD608C 0 top1 top1 4 0) (refusal 30 0x5C)
     -- "and before 31": BoardType 2
@@ -232,7 +230,7 @@ bare-refuses = refl
 -- ---- rules 32 and 33 on a structure that the full list knows, and the bare list does not
 abbrev known : List Row
 known =
-    row (image 0x100 0x085BAD6B 0x100 (logo 0x20 0)) (Accepted 4)
+    row (image 0x100 0x085BAD6B 0x100 (logo 0x20 0)) (Ok 4)
     -- 32: a reserved byte
     ∷ row (image 0x100 0xA6333CFA 0x100 (logo 0x20 1)) (refusal 32 0xF0)
     -- 33: under its fixed part, and then its reserved field is not read
@@ -243,6 +241,6 @@ known-hold : map (λ (r : Row). judged full r.image) known ≡ map (λ (r : Row)
 unfolding judged rule20 rule21 rule22 rule23 rule24 rule25 rule26 rule27 rule28 rule29 rule30 rule31 rule32 rule33 rule34 misplaced gap_used expected out_of_order prom_sig_at covered check_over bad_map_head bad_board_head bad_prom_sig_head bad_hash bad_hash_of hash_size bad_map bad_map_field bad_map_record repeated_label bad_board_type reserved_used bad_inside shape_at shape_of listed_shape end_at round16 next map_at board_at later_at records visit chain first tab le16 le32 le64 nonzero is_text is_label_text text_end bad_label all crc32 shift shifts step32
 known-hold = refl
 
-not-known-hold : map (λ (r : Row). judged bare r.image) known ≡ Accepted 4 ∷ Accepted 4 ∷ Accepted 4 ∷ []
+not-known-hold : map (λ (r : Row). judged bare r.image) known ≡ Ok 4 ∷ Ok 4 ∷ Ok 4 ∷ []
 unfolding judged rule20 rule21 rule22 rule23 rule24 rule25 rule26 rule27 rule28 rule29 rule30 rule31 rule32 rule33 rule34 misplaced gap_used expected out_of_order prom_sig_at covered check_over bad_map_head bad_board_head bad_prom_sig_head bad_hash bad_hash_of hash_size bad_map bad_map_field bad_map_record repeated_label bad_board_type reserved_used bad_inside shape_at shape_of listed_shape end_at round16 next map_at board_at later_at records visit chain first tab le16 le32 le64 nonzero is_text is_label_text text_end bad_label all crc32 shift shifts step32
 not-known-hold = refl

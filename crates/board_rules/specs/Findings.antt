@@ -1,5 +1,5 @@
 -- What the code's two walks along the structures note and find. A reader of the rules may skip this. Assumes nothing.
-use Rattle.std.specs.Prelude.{ℕ, ◌+◌, false, cond, List, ◌≡◌, ltb, length}
+use Rattle.std.specs.Prelude.{ℕ, ◌+◌, false, cond, List, ◌≡◌, ltb, length, None}
 use Rattle.board_fields.specs.Inside.{bad_inside}
 use Rattle.board_fields.specs.Reserved.{reserved_used}
 use Rattle.board_layout.specs.Layout.{head_at, shape_at, struct_len, next, structures, later_at}
@@ -9,8 +9,7 @@ use Rattle.board_rules.specs.Rules.{misplaced, gap_used, out_of_order, is_prom_s
 use Rattle.board_rules.specs.declared.known.Contents.{Contents}
 use Rattle.board_rules.specs.declared.walk.Findings.{Findings}
 use Rattle.chain.specs.First.{or_else, search, when}
-use Rattle.chain.specs.declared.Found.{Found}
-use Rattle.chain.specs.declared.Found.TheVariants.{Nothing}
+use Rattle.chain.specs.Found.{Found}
 use Rattle.kinds.specs.declared.Kinds.{Kinds}
 
 -- a search along the structures from p on
@@ -25,7 +24,7 @@ pub record Seen (s : List ℕ) (end p : ℕ) (head : Head) : Type 0 where
 -- ---- the first walk: rules 23, 24 and 25
 -- rule 25 of those from `later` on
 unfoldable pub order_from : ℕ → List ℕ → ℕ → Found
-order_from later s p = cond (ltb p later) Nothing (out_of_order s p)
+order_from later s p = cond (ltb p later) None (out_of_order s p)
 
 -- what it finds of those after the third structure
 abbrev pub later_order : List ℕ → Found
@@ -40,8 +39,8 @@ rest_after k s p rest = cond (knows k (shape_at s p)) (next s p) rest
 
 -- a structure that is not known, keeps rule 23, and ends where the next one starts, or has only zeros up to there
 pub record Plain (k : Kinds) (s : List ℕ) (p : ℕ) : Type 0 where
-  pub placed : misplaced s p ≡ Nothing
-  pub tight : gap_used s p ≡ Nothing
+  pub placed : misplaced s p ≡ None
+  pub tight : gap_used s p ≡ None
   pub unknown : knows k (shape_at s p) ≡ false
 
 -- what was found before the structure at p, or else is found there
@@ -61,13 +60,13 @@ pub record Finds (k : Kinds) (s : List ℕ) (f : Findings) : Type 0 where
   pub gap : f.gap ≡ rule24 s
   pub order : f.order ≡ later_order s
   pub signature : f.signature ≡ prom_sig_at s
-  pub rest : along s (is_known k s) f.rest ≡ Nothing
+  pub rest : along s (is_known k s) f.rest ≡ None
   pub count : f.count ≡ length (structures s)
 
 -- it ends where rule 23 is broken; then no other rule counts
 pub record Walked (k : Kinds) (s : List ℕ) (f : Findings) : Type 0 where
   pub misplaced : f.misplaced ≡ rule23 s
-  pub finds : rule23 s ≡ Nothing → Finds k s f
+  pub finds : rule23 s ≡ None → Finds k s f
 
 -- ---- the second walk: rules 32 and 33
 -- what was found before the structure at p, or else is found there
@@ -81,4 +80,4 @@ looked_into k s p f =
 -- it ends where rule 32 is broken; then rule 33 does not count
 pub record Looked (k : Kinds) (s : List ℕ) (f : Contents) : Type 0 where
   pub reserved : f.reserved ≡ rule32 k s
-  pub inside : rule32 k s ≡ Nothing → f.inside ≡ rule33 k s
+  pub inside : rule32 k s ≡ None → f.inside ≡ rule33 k s

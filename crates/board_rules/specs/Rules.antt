@@ -1,6 +1,6 @@
 -- Rules 20 to 34, each as the smallest place where it is broken. Paper 01, "Refusal numbers and their order", and paper 02, R-2 and R-6. What 26 and 29 to 34
 -- say of one structure or record is in the crates board_fields and board_records. Assumes nothing.
-use Rattle.std.specs.Prelude.{ℕ, ◌+◌, ◌-◌, Bool, not, cond, ◌&&◌, ◌||◌, List, [], ◌∷◌, eqb, ltb, leb, length, take}
+use Rattle.std.specs.Prelude.{ℕ, ◌+◌, ◌-◌, Bool, not, cond, ◌&&◌, ◌||◌, List, [], ◌∷◌, eqb, ltb, leb, length, take, Some, None}
 use Rattle.board_fields.specs.Hash.{bad_hash}
 use Rattle.board_fields.specs.Heads.{bad_map_head, bad_board_head, bad_prom_sig_head}
 use Rattle.board_fields.specs.Inside.{bad_inside}
@@ -15,8 +15,7 @@ use Rattle.board_layout.specs.declared.Shape.{Shape}
 use Rattle.board_records.specs.Records.{repeated_label}
 use Rattle.chain.specs.Chain.{chain}
 use Rattle.chain.specs.First.{checks, first, when}
-use Rattle.chain.specs.declared.Found.{Found}
-use Rattle.chain.specs.declared.Found.TheVariants.{At, Nothing}
+use Rattle.chain.specs.Found.{Found}
 use Rattle.crc.specs.Blank.{blank}
 use Rattle.crc.specs.Crc32.{crc32}
 use Rattle.kinds.specs.Signatures.{eeprom, eepr_map, brd_info, prom_sig}
@@ -66,14 +65,14 @@ rule23 s = first (misplaced s) (structures s)
 
 -- 24: nonzero byte between structures: from the end of one that is not the last up to the next; the byte
 unfoldable pub gap_used : List ℕ → ℕ → Found
-gap_used s p = cond (eqb (end_at s p) (struct_len s)) Nothing (nonzero s (end_at s p) 0 (next s p - end_at s p))
+gap_used s p = cond (eqb (end_at s p) (struct_len s)) None (nonzero s (end_at s p) 0 (next s p - end_at s p))
 
 unfoldable pub rule24 : List ℕ → Found
 rule24 s = first (gap_used s) (structures s)
 
 -- 25: second not `$EeprMap`, third not `$BrdInfo`; its start, or StructLen if absent
 unfoldable pub expected : List ℕ → ℕ → ℕ → Found
-expected s g p = cond (ltb p (struct_len s)) (when (not (eqb (signature_at s p) g)) p) (At (struct_len s))
+expected s g p = cond (ltb p (struct_len s)) (when (not (eqb (signature_at s p) g)) p) (Some (struct_len s))
 
 -- a later one of these or `$Eeprom$`, or `$PromSig` not last. (A `$PromSig` as second or third is not what is expected there.)
 abbrev pub is_early : ℕ → Bool
@@ -102,8 +101,8 @@ unfoldable pub prom_sig_at : List ℕ → Found
 prom_sig_at s = first (is_prom_sig s) (structures s)
 
 abbrev pub on_found : (ℕ → Found) → Found → Found
-on_found rule (At p) = rule p
-on_found rule Nothing = Nothing
+on_found rule (Some p) = rule p
+on_found rule None = None
 
 -- 26: VerMajor and Length of map, board and `$PromSig`
 unfoldable pub rule26 : List ℕ → Found
@@ -112,8 +111,8 @@ rule26 s =
 
 -- "The expected CrcLength is StructLen, or the place of `$PromSig` plus 20h."
 abbrev pub covered_up_to : ℕ → Found → ℕ
-covered_up_to end (At p) = p + EepromSig
-covered_up_to end Nothing = end
+covered_up_to end (Some p) = p + EepromSig
+covered_up_to end None = end
 
 unfoldable pub covered : List ℕ → ℕ
 covered s = covered_up_to (struct_len s) (prom_sig_at s)
@@ -152,7 +151,7 @@ rule31 s = bad_board_type s (board_at s)
 
 -- a rule on the known structures, by their table
 abbrev pub on_known : Kinds → List ℕ → (ℕ → Shape → Found) → ℕ → Found
-on_known k s rule p = cond (knows k (shape_at s p)) (rule p (shape_at s p)) Nothing
+on_known k s rule p = cond (knows k (shape_at s p)) (rule p (shape_at s p)) None
 
 -- 32: reserved bytes of the known structures
 unfoldable pub rule32 : Kinds → List ℕ → Found

@@ -16,7 +16,6 @@ use Rattle.chain.specs.Fill.{tab}
 use Rattle.chain.specs.First.{first}
 use Rattle.crc.specs.Crc32.{crc32, shift, shifts, step32}
 use Rattle.octets.specs.Bytes.{spelled, le32, le64}
-use Rattle.octets.specs.Runs.{sixteen, sixteen_at}
 
 -- a buffer of n bytes AAh
 abbrev pub blank : ℕ → List ℕ
@@ -26,7 +25,7 @@ blank n = replicate n 0xAA
 abbrev pub map_with : ℕ → MapFields
 map_with size =
     record {
-      partlabel = sixteen (0x72 ∷ 0x69 ∷ 0x67 ∷ 0x24 ∷ zeros 12);
+      partlabel = 0x72 ∷ 0x69 ∷ 0x67 ∷ 0x24 ∷ zeros 12;
       blklength = 4096;
       pagesize = 32;
       partsize = size;
@@ -42,9 +41,9 @@ map13 = map_with 4096
 abbrev pub board13 : BrdInfoFields
 board13 =
     record {
-      manuname = sixteen (0x47 ∷ 0x77 ∷ 0x65 ∷ 0x6A ∷ 0x6C ∷ 0x75 ∷ 0x73 ∷ 0x61 ∷ zeros 8);
-      brdname = sixteen (0x72 ∷ 0x69 ∷ 0x67 ∷ zeros 13);
-      brdserial = sixteen (0x30 ∷ 0x30 ∷ 0x30 ∷ 0x31 ∷ zeros 12);
+      manuname = 0x47 ∷ 0x77 ∷ 0x65 ∷ 0x6A ∷ 0x6C ∷ 0x75 ∷ 0x73 ∷ 0x61 ∷ zeros 8;
+      brdname = 0x72 ∷ 0x69 ∷ 0x67 ∷ zeros 13;
+      brdserial = 0x30 ∷ 0x30 ∷ 0x30 ∷ 0x31 ∷ zeros 12;
       boardid = 1;
       fabid = 2;
       ecid = 3;
@@ -109,5 +108,5 @@ record Made : Type 0 where
   signed : image (given record13 (example.prom_sig 1)) ≡ image_signed
 
 made : Made
-unfolding image laid body laid_records laid_record crc_length check spelled sixteen_at tab flatten covered check_over prom_sig_at first chain visit next round16 le32 le64 crc32 shift shifts step32
+unfolding image laid body laid_records laid_record crc_length check spelled tab flatten covered check_over prom_sig_at first chain visit next round16 le32 le64 crc32 shift shifts step32
 made = record { case13 = refl; short = refl; two = refl; logo = refl; signed = refl }

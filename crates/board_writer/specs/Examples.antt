@@ -1,6 +1,6 @@
 -- What the writer answers, by computation: each refusal of its own and of the reader's, and what is written, with the whole buffer after the call; and case 13
 -- written, read back and accepted. Assumes nothing.
-use Rattle.std.specs.Prelude.{ℕ, ◌≡◌, refl, length, drop}
+use Rattle.std.specs.Prelude.{ℕ, ◌≡◌, refl, length, drop, Ok}
 use mathlib.Core.List.{List, [], ◌∷◌, ◌++◌, map, flatten}
 use Rattle.board.specs.Items.{eeprom_at, eepr_map_at, brd_info_at}
 use Rattle.board.specs.Records.{map_record_at}
@@ -28,10 +28,9 @@ use Rattle.crc.specs.Crc32.{crc32, shift, shifts, step32}
 use Rattle.kinds.specs.Kinds.{all, full}
 use Rattle.octets.specs.Bytes.{spelled, le16, le32, le64}
 use Rattle.octets.specs.Label.{is_text, is_label_text, text_end, bad_label}
-use Rattle.octets.specs.Runs.{sixteen_at, nonzero, difference, same_run}
+use Rattle.octets.specs.Runs.{nonzero, difference, same_run}
 use Rattle.verdict.specs.Said.{Said, says, refused, write_said}
-use Rattle.verdict.specs.declared.Judged.TheVariants.{Accepted}
-use Rattle.verdict.specs.declared.WriteAnswer.{WriteAnswer}
+use Rattle.verdict.specs.Answers.{WriteAnswer}
 
 -- ---- tables of calls
 -- what is to be written, and the length of the lent buffer; what is said, and the bytes at the buffer's front that then differ
@@ -99,23 +98,23 @@ calls =
     ∷ []
 
 calls-hold : map outcome calls ≡ map foretold calls
-unfolding written checked reviewed image laid body laid_records laid_record crc_length check spelled sixteen_at tab flatten covered check_over prom_sig_at first chain visit next round16 le32 le64 crc32 shift shifts step32 judged rule20 rule21 rule22 rule23 rule24 rule25 rule26 rule27 rule28 rule29 rule30 rule31 rule32 rule33 rule34 misplaced gap_used expected out_of_order end_at map_at board_at later_at shape_at shape_of listed_shape records bad_map_head bad_board_head bad_prom_sig_head bad_hash bad_hash_of hash_size bad_map bad_map_field bad_map_record repeated_label bad_board_type bad_inside reserved_used bad_label text_end is_label_text is_text nonzero difference same_run all le16
+unfolding written checked reviewed image laid body laid_records laid_record crc_length check spelled tab flatten covered check_over prom_sig_at first chain visit next round16 le32 le64 crc32 shift shifts step32 judged rule20 rule21 rule22 rule23 rule24 rule25 rule26 rule27 rule28 rule29 rule30 rule31 rule32 rule33 rule34 misplaced gap_used expected out_of_order end_at map_at board_at later_at shape_at shape_of listed_shape records bad_map_head bad_board_head bad_prom_sig_head bad_hash bad_hash_of hash_size bad_map bad_map_field bad_map_record repeated_label bad_board_type bad_inside reserved_used bad_label text_end is_label_text is_text nonzero difference same_run all le16
 calls-hold = refl
 
 -- ---- case 13 with each header: what laws/Written and laws/Rebuilt claim of every image, here by computation alone; and an image with a `$PromSig`, which the
 -- reader accepts
 pub record Computed : Type 0 where
-  pub written13 : written parts13 (blank 0xE2) ≡ (WriteAnswer.Length 0xE0, image13 ++ blank 2)
-  pub again : judged full (image13 ++ blank 2) ≡ Accepted 3
+  pub written13 : written parts13 (blank 0xE2) ≡ (Ok 0xE0, image13 ++ blank 2)
+  pub again : judged full (image13 ++ blank 2) ≡ Ok 3
   pub back : parts_of (image13 ++ blank 2) ≡ parts13
-  pub accepted13 : judged full image13 ≡ Accepted 3
-  pub written_short : written short13 (blank 0xD2) ≡ (WriteAnswer.Length 0xD0, image_short ++ blank 2)
+  pub accepted13 : judged full image13 ≡ Ok 3
+  pub written_short : written short13 (blank 0xD2) ≡ (Ok 0xD0, image_short ++ blank 2)
   pub back_short : parts_of (image_short ++ blank 2) ≡ short13
-  pub accepted_short : judged full image_short ≡ Accepted 3
-  pub signed : judged full image_signed ≡ Accepted 4
+  pub accepted_short : judged full image_short ≡ Ok 3
+  pub signed : judged full image_signed ≡ Ok 4
 
 pub computed : Computed
-unfolding written checked reviewed image laid body laid_records laid_record crc_length check spelled sixteen_at tab flatten covered check_over prom_sig_at first chain visit next round16 le32 le64 crc32 shift shifts step32 judged rule20 rule21 rule22 rule23 rule24 rule25 rule26 rule27 rule28 rule29 rule30 rule31 rule32 rule33 rule34 misplaced gap_used expected out_of_order end_at map_at board_at later_at shape_at shape_of listed_shape records bad_map_head bad_board_head bad_prom_sig_head bad_hash bad_hash_of hash_size bad_map bad_map_field bad_map_record repeated_label bad_board_type bad_inside reserved_used bad_label text_end is_label_text is_text nonzero all le16 parts_of records_of map_record_at eeprom_at eepr_map_at brd_info_at
+unfolding written checked reviewed image laid body laid_records laid_record crc_length check spelled tab flatten covered check_over prom_sig_at first chain visit next round16 le32 le64 crc32 shift shifts step32 judged rule20 rule21 rule22 rule23 rule24 rule25 rule26 rule27 rule28 rule29 rule30 rule31 rule32 rule33 rule34 misplaced gap_used expected out_of_order end_at map_at board_at later_at shape_at shape_of listed_shape records bad_map_head bad_board_head bad_prom_sig_head bad_hash bad_hash_of hash_size bad_map bad_map_field bad_map_record repeated_label bad_board_type bad_inside reserved_used bad_label text_end is_label_text is_text nonzero all le16 parts_of records_of map_record_at eeprom_at eepr_map_at brd_info_at
 computed =
     record {
       written13 = refl;

@@ -11,9 +11,8 @@ use Rattle.board_writer.specs.Parts.{Parts, given_size, record_count}
 use Rattle.board_writer.specs.declared.MapFields.{MapFields}
 use Rattle.chain.specs.Fill.{tab}
 use Rattle.kinds.specs.Signatures.{eeprom, eepr_map, brd_info}
-use Rattle.octets.specs.Bytes.{byte, spelled}
-use Rattle.octets.specs.Runs.{sixteen_at, sixteen_bytes}
-use Rattle.octets.specs.declared.Sixteen.{Sixteen}
+use Rattle.octets.specs.Bytes.{byte, spelled, run}
+use Rattle.octets.specs.Runs.{sixteen}
 
 -- reserved bytes
 abbrev pub zeros : ℕ → List ℕ
@@ -31,12 +30,12 @@ header_of header end check covers version =
 -- $EeprMap of a Length, up to its records: PartLabel, BlkLength, PageSize, PartSize, BusNumber, Master, Speed, Reserved
 abbrev pub map_of : ℕ → MapFields → List ℕ
 map_of size m =
-    head eepr_map size ++ sixteen_bytes m.partlabel ++ spelled 4 m.blklength ++ spelled 2 m.pagesize ++ spelled 4 m.partsize
+    head eepr_map size ++ sixteen m.partlabel ++ spelled 4 m.blklength ++ spelled 2 m.pagesize ++ spelled 4 m.partsize
     ++ (m.busnumber ∷ m.master ∷ m.speed ∷ zeros 3)
 
 -- a map record: Label, Length (the record's own size, 20h), Offset, Address, Reserved
-abbrev pub record_of : Sixteen → ℕ → ℕ → List ℕ
-record_of label offset address = sixteen_bytes label ++ spelled 4 map_record_size ++ spelled 4 offset ++ (address ∷ zeros 7)
+abbrev pub record_of : List ℕ → ℕ → ℕ → List ℕ
+record_of label offset address = label ++ spelled 4 map_record_size ++ spelled 4 offset ++ (address ∷ zeros 7)
 
 -- $BrdInfo has Length 60h
 abbrev pub board_length : ℕ
@@ -45,13 +44,13 @@ board_length = 0x60
 -- $BrdInfo: ManuName, BrdName, BrdSerial, BoardId, FabId, EcId, BoardType, Reserved
 abbrev pub board_of : BrdInfoFields → List ℕ
 board_of b =
-    head brd_info board_length ++ sixteen_bytes b.manuname ++ sixteen_bytes b.brdname ++ sixteen_bytes b.brdserial ++ spelled 4 b.boardid
+    head brd_info board_length ++ sixteen b.manuname ++ sixteen b.brdname ++ sixteen b.brdserial ++ spelled 4 b.boardid
     ++ spelled 4 b.fabid ++ spelled 4 b.ecid ++ (b.boardtype ∷ zeros 19)
 
 -- record k of the run, laid: "Record k has Offset k x BlkLength". (An Offset over 32 bits keeps its low ones; the reader refuses the image.)
 unfoldable pub laid_record : List ℕ → ℕ → ℕ → List ℕ
 laid_record records block k =
-    record_of (sixteen_at records (given_size * k)) (k * block) (byte records (given_size * k + 16))
+    record_of (run records (given_size * k) 16) (k * block) (byte records (given_size * k + 16))
 
 -- the first n of them
 unfoldable pub laid_records : List ℕ → ℕ → ℕ → List ℕ

@@ -1,6 +1,6 @@
 -- What is read of an image, as the writer takes it. Paper 01, "Writers": "An image accepted with the full list can be rebuilt if it is .. a board without
 -- `$PromSig` and with minor 0 in its first three structures." Each field is what a reader shows of item 0, 1 or 2, or of a map record. Assumes nothing.
-use Rattle.std.specs.Prelude.{ℕ, ◌-◌, ◌≡◌}
+use Rattle.std.specs.Prelude.{ℕ, ◌-◌, ◌≡◌, None}
 use mathlib.Core.List.{List, [], ◌∷◌, ◌++◌, map, flatten}
 use Rattle.board.specs.Items.{eeprom_at, eepr_map_at, brd_info_at}
 use Rattle.board.specs.Records.{map_record_at}
@@ -11,9 +11,7 @@ use Rattle.board_layout.specs.declared.Records.TheVariants.{Map}
 use Rattle.board_rules.specs.Rules.{prom_sig_at}
 use Rattle.board_writer.specs.Parts.{Parts}
 use Rattle.board_writer.specs.declared.MapFields.{MapFields}
-use Rattle.chain.specs.declared.Found.TheVariants.{Nothing}
 use Rattle.octets.specs.Bytes.{run}
-use Rattle.octets.specs.Runs.{sixteen_bytes}
 
 -- the map's fields but its records
 abbrev pub map_given : EeprMapFields → MapFields
@@ -30,7 +28,7 @@ map_given m =
 
 -- a record as the run has it: label and address
 abbrev pub record_given : MapRecord → List ℕ
-record_given r = sixteen_bytes r.maplabel ++ (r.address.0 ∷ [])
+record_given r = r.maplabel ++ (r.address.0 ∷ [])
 
 -- the records of the map, as a run
 unfoldable pub records_of : List ℕ → List ℕ
@@ -53,7 +51,7 @@ parts_of s =
 
 -- "a board without `$PromSig` and with minor 0 in its first three structures"
 pub record Rebuildable (s : List ℕ) : Type 0 where
-  pub unsigned : prom_sig_at s ≡ Nothing
+  pub unsigned : prom_sig_at s ≡ None
   pub header : minor_at s 0 ≡ 0
   pub map : minor_at s (map_at s) ≡ 0
   pub board : minor_at s (board_at s) ≡ 0

@@ -1,16 +1,14 @@
 -- What a reader shows of what was written: header, map and board structure, and the records of the map, by what was given. Assumes nothing.
-use Rattle.std.specs.Prelude.{ℕ, ◌+◌, ◌-◌, ◌*◌}
+use Rattle.std.specs.Prelude.{ℕ, ◌+◌, ◌-◌, ◌*◌, Some}
 use Rattle.board.specs.declared.EeprMapFields.{EeprMapFields}
 use Rattle.board.specs.declared.EepromFields.{EepromFields}
 use Rattle.board.specs.declared.Fields.{Fields}
-use Rattle.board.specs.declared.Item.{Item}
 use Rattle.board.specs.declared.MapRecord.{MapRecord}
 use Rattle.board.specs.declared.ShownItem.{ShownItem}
 use Rattle.board_layout.specs.Places.{head_size, MapData, map_record_size}
 use Rattle.board_writer.specs.Image.{image_length, map_place}
 use Rattle.board_writer.specs.Parts.{Parts, given_size, record_count}
-use Rattle.octets.specs.Bytes.{byte}
-use Rattle.octets.specs.Runs.{sixteen_at}
+use Rattle.octets.specs.Bytes.{byte, run}
 
 -- a structure of VerMajor 1 and VerMinor 0 as it is shown, with its signature, place, Length and fields
 abbrev pub item_shown : ℕ → ℕ → ℕ → Fields → ShownItem
@@ -19,7 +17,7 @@ item_shown signature place size fields =
       signature = signature;
       place = place;
       length = size - head_size;
-      item = Item.Known (record { major = 1; minor = 0; length = size; fields = fields });
+      item = Some (record { major = 1; minor = 0; length = size; fields = fields });
     }
 
 -- the header, where no `$PromSig` cuts the check short
@@ -44,7 +42,7 @@ map_shown x =
 abbrev pub record_shown : Parts → ℕ → MapRecord
 record_shown x k =
     record {
-      maplabel = sixteen_at x.records (given_size * k);
+      maplabel = run x.records (given_size * k) 16;
       length = map_record_size;
       offset = record { 0 = k * x.map.blklength };
       address = record { 0 = byte x.records (given_size * k + 16) };

@@ -7,17 +7,16 @@ use super::MapFields;
 use board::BrdInfoFields;
 use board_layout::{Header, header_length};
 use kinds::{BRD_INFO, EEPR_MAP, EEPROM};
-use octets::spell::{le16_bytes, le32_bytes, le64_bytes, sixteen_bytes};
-use octets::{Sixteen, put_at};
+use octets::put_at;
 
 // A generic head of version 1.0.
 fn head_bytes(signature: u64, length: u32) -> [u8; 16]
     ensures { result ≡ head signature length }
 {
     let mut bytes = [0u8; 16];
-    put_at(&le64_bytes(signature), 0, &mut bytes);
+    put_at(&signature.to_le_bytes(), 0, &mut bytes);
     bytes[8] = 1;
-    put_at(&le32_bytes(length as u64), 12, &mut bytes);
+    put_at(&length.to_le_bytes(), 12, &mut bytes);
     bytes
 }
 
@@ -31,10 +30,10 @@ pub fn header_bytes(header: Header, end: u32, check: u32, covers: u32, version: 
         0,
         &mut bytes,
     );
-    put_at(&le32_bytes(end as u64), 0x10, &mut bytes);
-    put_at(&le32_bytes(check as u64), 0x14, &mut bytes);
-    put_at(&le32_bytes(covers as u64), 0x18, &mut bytes);
-    put_at(&le32_bytes(version as u64), 0x1C, &mut bytes);
+    put_at(&end.to_le_bytes(), 0x10, &mut bytes);
+    put_at(&check.to_le_bytes(), 0x14, &mut bytes);
+    put_at(&covers.to_le_bytes(), 0x18, &mut bytes);
+    put_at(&version.to_le_bytes(), 0x1C, &mut bytes);
     bytes
 }
 
@@ -44,10 +43,10 @@ pub fn map_bytes(length: u32, map: MapFields) -> [u8; 48]
 {
     let mut bytes = [0u8; 48];
     put_at(&head_bytes(EEPR_MAP, length), 0, &mut bytes);
-    put_at(&sixteen_bytes(map.partlabel), 0x10, &mut bytes);
-    put_at(&le32_bytes(map.blklength as u64), 0x20, &mut bytes);
-    put_at(&le16_bytes(map.pagesize), 0x24, &mut bytes);
-    put_at(&le32_bytes(map.partsize as u64), 0x26, &mut bytes);
+    put_at(&map.partlabel, 0x10, &mut bytes);
+    put_at(&map.blklength.to_le_bytes(), 0x20, &mut bytes);
+    put_at(&map.pagesize.to_le_bytes(), 0x24, &mut bytes);
+    put_at(&map.partsize.to_le_bytes(), 0x26, &mut bytes);
     bytes[0x2A] = map.busnumber;
     bytes[0x2B] = map.master;
     bytes[0x2C] = map.speed;
@@ -55,13 +54,13 @@ pub fn map_bytes(length: u32, map: MapFields) -> [u8; 48]
 }
 
 // A map record. Of an offset over 32 bits the low ones are kept.
-pub fn record_bytes(label: Sixteen, offset: u64, address: u8) -> [u8; 32]
+pub fn record_bytes(label: [u8; 16], offset: u64, address: u8) -> [u8; 32]
     ensures { result ≡ record_of label offset address }
 {
     let mut bytes = [0u8; 32];
-    put_at(&sixteen_bytes(label), 0, &mut bytes);
-    put_at(&le32_bytes(0x20), 0x10, &mut bytes);
-    put_at(&le32_bytes(offset), 0x14, &mut bytes);
+    put_at(&label, 0, &mut bytes);
+    put_at(&0x20u32.to_le_bytes(), 0x10, &mut bytes);
+    put_at(&offset.to_le_bytes()[..4], 0x14, &mut bytes);
     bytes[0x18] = address;
     bytes
 }
@@ -72,12 +71,12 @@ pub fn board_bytes(board: BrdInfoFields) -> [u8; 96]
 {
     let mut bytes = [0u8; 96];
     put_at(&head_bytes(BRD_INFO, 0x60), 0, &mut bytes);
-    put_at(&sixteen_bytes(board.manuname), 0x10, &mut bytes);
-    put_at(&sixteen_bytes(board.brdname), 0x20, &mut bytes);
-    put_at(&sixteen_bytes(board.brdserial), 0x30, &mut bytes);
-    put_at(&le32_bytes(board.boardid as u64), 0x40, &mut bytes);
-    put_at(&le32_bytes(board.fabid as u64), 0x44, &mut bytes);
-    put_at(&le32_bytes(board.ecid as u64), 0x48, &mut bytes);
+    put_at(&board.manuname, 0x10, &mut bytes);
+    put_at(&board.brdname, 0x20, &mut bytes);
+    put_at(&board.brdserial, 0x30, &mut bytes);
+    put_at(&board.boardid.to_le_bytes(), 0x40, &mut bytes);
+    put_at(&board.fabid.to_le_bytes(), 0x44, &mut bytes);
+    put_at(&board.ecid.to_le_bytes(), 0x48, &mut bytes);
     bytes[0x4C] = board.boardtype;
     bytes
 }

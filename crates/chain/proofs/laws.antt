@@ -8,6 +8,7 @@ pub mod Agree
 pub mod First
 pub mod Checks
 pub mod Loops
+pub mod Along
 pub mod Gather
 pub mod Nth
 pub mod Keep

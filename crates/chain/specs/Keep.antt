@@ -1,7 +1,6 @@
 -- The elements of a list that pass a test, and the place of a list of places that has exactly one. Assumes nothing.
-use Rattle.std.specs.Prelude.{ℕ, Bool, cond, List, [], ◌∷◌}
-use Rattle.chain.specs.declared.Found.{Found}
-use Rattle.chain.specs.declared.Found.TheVariants.{At, Nothing}
+use Rattle.std.specs.Prelude.{ℕ, Bool, cond, List, [], ◌∷◌, Some, None}
+use Rattle.chain.specs.Found.{Found}
 
 module _ {A : Type 0} where
   -- the elements that pass the test, in their order
@@ -11,6 +10,6 @@ module _ {A : Type 0} where
 
 -- the place of a list that has exactly one; nothing where it has none, or more
 unfoldable pub only : List ℕ → Found
-only [] = Nothing
-only (x ∷ []) = At x
-only (x ∷ (y ∷ ys)) = Nothing
+only [] = None
+only (x ∷ []) = Some x
+only (x ∷ (y ∷ ys)) = None

@@ -1,4 +1,6 @@
 -- The definitions that the contracts cite, and examples of them. Assumes nothing.
+pub mod Found
+pub mod Along
 pub mod Chain
 pub mod First
 pub mod Nth

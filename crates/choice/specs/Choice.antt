@@ -1,15 +1,16 @@
 -- Firmware or EEPROM image: which is chosen, and the part handed back. Paper 01, "Choosing": "Given a firmware image and an EEPROM image, the chosen image is
 -- handed back as the first StructLen bytes of the lent one." Assumes nothing.
-use Rattle.std.specs.Prelude.{ℕ, ◌+◌, Bool, cond, ◌&&◌, List, [], eqb, ltb, take}
+use Rattle.std.specs.Prelude.{ℕ, ◌+◌, Bool, cond, ◌&&◌, List, [], eqb, ltb, take, Ok, Err}
 use Rattle.board_layout.specs.Layout.{struct_len, board_at}
 use Rattle.board_layout.specs.Places.{Version, ManuName, BrdName, BoardId, FabId, EcId, BoardType}
 use Rattle.board_rules.specs.Judged.{judged}
-use Rattle.choice.specs.declared.ChoiceAnswer.{ChoiceAnswer}
+use Rattle.choice.specs.AnswerTypes.{ChoiceAnswer}
+use Rattle.choice.specs.declared.Part.TheVariants.{Firmware, Eeprom}
 use Rattle.kinds.specs.declared.Kinds.{Kinds}
 use Rattle.octets.specs.Bytes.{byte, le32}
 use Rattle.octets.specs.Runs.{same_run}
 use Rattle.verdict.specs.Said.{Said, says, refused}
-use Rattle.verdict.specs.declared.Judged.{Judged}
+use Rattle.verdict.specs.Answers.{Judged}
 
 -- the board structure at p of image f and the one at q of image e: BoardId, FabId, EcId, BoardType are equal
 unfoldable pub same_ids : List ℕ → ℕ → List ℕ → ℕ → Bool
@@ -33,14 +34,14 @@ unfoldable pub eeprom_wins : List ℕ → List ℕ → Bool
 eeprom_wins f e = same_board f e && ltb (le32 f Version) (le32 e Version)
 
 abbrev pub of_both : List ℕ → List ℕ → ChoiceAnswer
-of_both f e = cond (eeprom_wins f e) (ChoiceAnswer.Eeprom (struct_len e)) (ChoiceAnswer.Firmware (struct_len f))
+of_both f e = cond (eeprom_wins f e) (Ok (Eeprom (struct_len e))) (Ok (Firmware (struct_len f)))
 
 -- "If one is accepted, it is chosen. .. If neither, firmware's refusal"
 abbrev pub choice_if : List ℕ → List ℕ → Judged → Judged → ChoiceAnswer
-choice_if f e (Judged.Accepted n) (Judged.Accepted m) = of_both f e
-choice_if f e (Judged.Accepted n) (Judged.Refused q) = ChoiceAnswer.Firmware (struct_len f)
-choice_if f e (Judged.Refused r) (Judged.Accepted m) = ChoiceAnswer.Eeprom (struct_len e)
-choice_if f e (Judged.Refused r) (Judged.Refused q) = ChoiceAnswer.Neither r
+choice_if f e (Ok n) (Ok m) = of_both f e
+choice_if f e (Ok n) (Err q) = Ok (Firmware (struct_len f))
+choice_if f e (Err r) (Ok m) = Ok (Eeprom (struct_len e))
+choice_if f e (Err r) (Err q) = Err r
 
 -- "Both are judged with the one list given."
 unfoldable pub choice_of : Kinds → List ℕ → List ℕ → ChoiceAnswer
@@ -48,9 +49,9 @@ choice_of k f e = choice_if f e (judged k f) (judged k e)
 
 -- the part handed back: "the first StructLen bytes of the lent one", or "an empty part"
 abbrev pub part : List ℕ → List ℕ → ChoiceAnswer → List ℕ
-part f e (ChoiceAnswer.Firmware n) = take n f
-part f e (ChoiceAnswer.Eeprom n) = take n e
-part f e (ChoiceAnswer.Neither r) = []
+part f e (Ok (Firmware n)) = take n f
+part f e (Ok (Eeprom n)) = take n e
+part f e (Err r) = []
 
 unfoldable pub chosen_of : Kinds → List ℕ → List ℕ → List ℕ
 chosen_of k f e = part f e (choice_of k f e)
@@ -61,6 +62,6 @@ pub record Chosen : Type 0 where
   pub length : ℕ
 
 abbrev pub choice_said : ChoiceAnswer → Said Chosen
-choice_said (ChoiceAnswer.Firmware n) = says (record { which = 0; length = n })
-choice_said (ChoiceAnswer.Eeprom n) = says (record { which = 1; length = n })
-choice_said (ChoiceAnswer.Neither r) = refused r.number r.place
+choice_said (Ok (Firmware n)) = says (record { which = 0; length = n })
+choice_said (Ok (Eeprom n)) = says (record { which = 1; length = n })
+choice_said (Err r) = refused r.number r.place

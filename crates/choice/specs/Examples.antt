@@ -1,13 +1,12 @@
 -- Examples of the choice: case 11 of paper 01 on images of case 13's layout, then damaged ones, and one lent with more than its StructLen bytes.
 -- That they hold by computation is `rows-hold` of proofs/laws/Examples.antt. Further cases are run. Assumes nothing.
-use Rattle.std.specs.Prelude.{ℕ, List, [], ◌∷◌, ◌++◌, take}
+use Rattle.std.specs.Prelude.{ℕ, List, [], ◌∷◌, ◌++◌, take, Ok}
 use Rattle.board_rules.specs.Examples.{zeros, four, head, short, eepr_map}
 use Rattle.choice.specs.Choice.{choice_if, choice_of, part, chosen_of, Chosen, choice_said}
 use Rattle.kinds.specs.Kinds.{full}
 use Rattle.verdict.specs.Said.{Said, says, refused}
 use Rattle.verdict.specs.Verdict.{refusal}
-use Rattle.verdict.specs.declared.Judged.{Judged}
-use Rattle.verdict.specs.declared.Judged.TheVariants.{Accepted}
+use Rattle.verdict.specs.Answers.{Judged}
 
 -- ---- an image with this Crc32 and Version, BrdSerial "000" and a last character, and EcId
 abbrev pub header : ℕ → ℕ → List ℕ
@@ -51,12 +50,12 @@ bytes damaged = image 0x971449AC 4 0x31 3
 
 -- what the full list says of each
 abbrev pub verdict : Name → Judged
-verdict older = Accepted 3
-verdict newer = Accepted 3
-verdict short_newer = Accepted 3
-verdict other_serial = Accepted 3
-verdict other_ec = Accepted 3
-verdict longer = Accepted 3
+verdict older = Ok 3
+verdict newer = Ok 3
+verdict short_newer = Ok 3
+verdict other_serial = Ok 3
+verdict other_ec = Ok 3
+verdict longer = Ok 3
 verdict shorter = refusal 22 0x10
 verdict damaged = refusal 27 0x14
 

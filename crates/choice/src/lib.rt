@@ -2,103 +2,82 @@
 
 #![tactic(auto)]
 
-ghost use Rattle.std.specs.Prelude.{◌≡◌, ◌≤◌};
-ghost use Rattle.choice.specs.Choice.{same_ids, same_board_at, eeprom_wins, of_both, choice_if, choice_of, chosen_of};
-ghost use Rattle.board_rules.specs.Judged.{judged};
-ghost use Rattle.verdict.specs.declared.Judged.{Judged};
+ghost use Rattle.std.specs.Prelude.{◌≡◌, Ok};
+ghost use Rattle.choice.specs.Choice.{same_board, eeprom_wins, of_both, choice_of, chosen_of};
+ghost use Rattle.choice.specs.Boards.{board_of};
 
 use board_layout::{board_place, struct_len};
 use board_rules::judge;
 use kinds::Kinds;
-use octets::{byte_at, le32_at, same_run};
-use verdict::{Judged, Refusal};
+use octets::{byte_at, bytes_at, le32_at};
+use verdict::Refusal;
 
-// Which image is chosen, with its length; or firmware's refusal.
+// The image that is chosen, with its length.
 #[derive(Clone, Copy)]
-pub enum ChoiceAnswer {
+pub enum Part {
     Firmware(usize),
     Eeprom(usize),
-    Neither(Refusal),
 }
 
-// Whether the ids and types of two board structures are equal.
-fn same_ids(firmware: &[u8], p: usize, eeprom: &[u8], q: usize) -> bool
-    requires { (p ≤ 0x10_0000_0000) × (q ≤ 0x10_0000_0000) }
-    ensures { result ≡ same_ids firmware.now p eeprom.now q }
-{
-    if le32_at(firmware, p + 0x40) != le32_at(eeprom, q + 0x40) {
-        return false;
-    }
-    if le32_at(firmware, p + 0x44) != le32_at(eeprom, q + 0x44) {
-        return false;
-    }
-    if le32_at(firmware, p + 0x48) != le32_at(eeprom, q + 0x48) {
-        return false;
-    }
-    byte_at(firmware, p + 0x4C) == byte_at(eeprom, q + 0x4C)
+// What two images have in common where they are of the same board: the names and the ids of the board structure, and its type.
+#[derive(Clone, Copy, PartialEq, Eq)]
+pub struct Board {
+    pub manu_name: [u8; 16],
+    pub brd_name: [u8; 16],
+    pub board_id: u32,
+    pub fab_id: u32,
+    pub ec_id: u32,
+    pub board_type: u8,
 }
 
-// Whether two board structures are of the same board.
-fn same_board(firmware: &[u8], p: usize, eeprom: &[u8], q: usize) -> bool
-    requires { (p ≤ 0x10_0000_0000) × (q ≤ 0x10_0000_0000) }
-    ensures { result ≡ same_board_at firmware.now p eeprom.now q }
+// The board of an image.
+fn board_of(image: &[u8]) -> Board
+    ensures { result ≡ board_of image.now }
 {
-    if same_run(firmware, p + 0x10, eeprom, q + 0x10, 16) {
-        if same_run(firmware, p + 0x20, eeprom, q + 0x20, 16) {
-            return same_ids(firmware, p, eeprom, q);
-        }
-        return false;
+    let at = board_place(image);
+    Board {
+        manu_name: bytes_at(image, at + 0x10),
+        brd_name: bytes_at(image, at + 0x20),
+        board_id: le32_at(image, at + 0x40),
+        fab_id: le32_at(image, at + 0x44),
+        ec_id: le32_at(image, at + 0x48),
+        board_type: byte_at(image, at + 0x4C),
     }
-    false
+}
+
+// Whether two images are of the same board.
+fn same_board(firmware: &[u8], eeprom: &[u8]) -> bool
+    ensures { result ≡ same_board firmware.now eeprom.now }
+{
+    board_of(firmware) == board_of(eeprom)
 }
 
 // Whether the EEPROM image is chosen of two that are accepted.
 fn eeprom_wins(firmware: &[u8], eeprom: &[u8]) -> bool
     ensures { result ≡ eeprom_wins firmware.now eeprom.now }
 {
-    if same_board(firmware, board_place(firmware), eeprom, board_place(eeprom)) {
-        return le32_at(firmware, 0x1C) < le32_at(eeprom, 0x1C);
-    }
-    false
+    same_board(firmware, eeprom) && le32_at(firmware, 0x1C) < le32_at(eeprom, 0x1C)
 }
 
 // The choice of two that are accepted.
-fn of_both(firmware: &[u8], eeprom: &[u8]) -> ChoiceAnswer
-    ensures { result ≡ of_both firmware.now eeprom.now }
+fn of_both(firmware: &[u8], eeprom: &[u8]) -> Part
+    ensures { Ok result ≡ of_both firmware.now eeprom.now }
 {
     if eeprom_wins(firmware, eeprom) {
-        return ChoiceAnswer::Eeprom(struct_len(eeprom) as usize);
+        return Part::Eeprom(struct_len(eeprom) as usize);
     }
-    ChoiceAnswer::Firmware(struct_len(firmware) as usize)
-}
-
-// The choice where the firmware image is accepted.
-fn of_accepted(firmware: &[u8], eeprom: &[u8], kinds: Kinds, count: usize) -> ChoiceAnswer
-    ensures { result ≡ choice_if firmware.now eeprom.now (Judged.Accepted count) (judged kinds eeprom.now) }
-{
-    match judge(eeprom, kinds) {
-        Judged::Accepted(_) => of_both(firmware, eeprom),
-        Judged::Refused(_) => ChoiceAnswer::Firmware(struct_len(firmware) as usize),
-    }
-}
-
-// The choice where it is refused.
-fn of_refused(firmware: &[u8], eeprom: &[u8], kinds: Kinds, refusal: Refusal) -> ChoiceAnswer
-    ensures { result ≡ choice_if firmware.now eeprom.now (Judged.Refused refusal) (judged kinds eeprom.now) }
-{
-    match judge(eeprom, kinds) {
-        Judged::Accepted(_) => ChoiceAnswer::Eeprom(struct_len(eeprom) as usize),
-        Judged::Refused(_) => ChoiceAnswer::Neither(refusal),
-    }
+    Part::Firmware(struct_len(firmware) as usize)
 }
 
 // Which of the two images is chosen, both judged with this list, and how many bytes it has; or the refusal of the firmware image, if neither is accepted.
-pub fn choice(firmware: &[u8], eeprom: &[u8], kinds: Kinds) -> ChoiceAnswer
+pub fn choice(firmware: &[u8], eeprom: &[u8], kinds: Kinds) -> Result<Part, Refusal>
     ensures { result ≡ choice_of kinds firmware.now eeprom.now }
 {
-    match judge(firmware, kinds) {
-        Judged::Accepted(count) => of_accepted(firmware, eeprom, kinds, count),
-        Judged::Refused(refusal) => of_refused(firmware, eeprom, kinds, refusal),
+    match (judge(firmware, kinds), judge(eeprom, kinds)) {
+        (Ok(_), Ok(_)) => Ok(of_both(firmware, eeprom)),
+        (Ok(_), Err(_)) => Ok(Part::Firmware(struct_len(firmware) as usize)),
+        (Err(_), Ok(_)) => Ok(Part::Eeprom(struct_len(eeprom) as usize)),
+        (Err(refusal), Err(_)) => Err(refusal),
     }
 }
 
@@ -107,14 +86,8 @@ pub fn chosen<'a>(firmware: &'a [u8], eeprom: &'a [u8], kinds: Kinds) -> &'a [u8
     ensures { result.now ≡ chosen_of kinds firmware.now eeprom.now }
 {
     match choice(firmware, eeprom, kinds) {
-        ChoiceAnswer::Firmware(n) => {
-            return &firmware[..n];
-        }
-        ChoiceAnswer::Eeprom(n) => {
-            return &eeprom[..n];
-        }
-        ChoiceAnswer::Neither(_) => {
-            return &firmware[..0];
-        }
+        Ok(Part::Firmware(n)) => &firmware[..n],
+        Ok(Part::Eeprom(n)) => &eeprom[..n],
+        Err(_) => &firmware[..0],
     }
 }

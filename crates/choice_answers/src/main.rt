@@ -3,82 +3,56 @@
 
 #![tactic(auto)]
 
-ghost use Rattle.std.specs.Prelude.{◌≤◌, length};
+ghost use Rattle.std.specs.Prelude.{◌≤◌, length, IfSome};
 
-use choice::{ChoiceAnswer, choice, chosen};
-use console::{put, put_decimal, put_spaced, read_full};
+use choice::{Part, choice, chosen};
+use console::program::with_front;
+use console::show::Spaced;
+use console::words::InNumbers;
 use kinds::Kinds;
 use octets::le32_at;
 use std::io;
-use verdict::Refusal;
-
-// A word and a number, as a line.
-fn put_length(out: &impl Print, word: &[u8], n: usize) -> io::Result<()> {
-    put(out, word)?;
-    put_decimal(out, n)?;
-    put(out, b"\n")
-}
-
-fn put_neither(out: &impl Print, refusal: Refusal) -> io::Result<()> {
-    put(out, b"neither ")?;
-    put_decimal(out, refusal.number as usize)?;
-    put(out, b" ")?;
-    put_decimal(out, refusal.place)?;
-    put(out, b"\n")
-}
-
-fn put_answer(out: &impl Print, answer: ChoiceAnswer) -> io::Result<()> {
-    match answer {
-        ChoiceAnswer::Firmware(n) => put_length(out, b"firmware ", n),
-        ChoiceAnswer::Eeprom(n) => put_length(out, b"eeprom ", n),
-        ChoiceAnswer::Neither(refusal) => put_neither(out, refusal),
-    }
-}
 
 // The choice between two images, and the part that is handed back.
-fn put_choice<'a>(
-    out: &impl Print,
-    firmware: &'a [u8],
-    eeprom: &'a [u8],
-    kinds: Kinds,
-) -> io::Result<()> {
-    let answer = choice(firmware, eeprom, kinds);
-    put_answer(out, answer)?;
-    put(out, b"part")?;
-    let part = chosen(firmware, eeprom, kinds);
-    put_spaced(out, part)?;
-    put(out, b"\n")
+fn put_choice(out: &impl Print, firmware: &[u8], eeprom: &[u8], kinds: Kinds) -> io::Result<()> {
+    match choice(firmware, eeprom, kinds) {
+        Ok(Part::Firmware(n)) => println!(out; "firmware {n}")?,
+        Ok(Part::Eeprom(n)) => println!(out; "eeprom {n}")?,
+        Err(refusal) => println!(out; "neither {}", InNumbers(refusal))?,
+    }
+    println!(out; "part{}", Spaced(chosen(firmware, eeprom, kinds)))
 }
 
-// The first n bytes of the input: for each pair its list, four bytes, and the two images, each with its length, four bytes, in front.
-fn put_all(out: &impl Print, input: &[u8], n: usize) -> io::Result<()>
-    requires { n ≤ length input.now }
+// An image with its length, four bytes, in front, and what is behind it; none where the length is over what is there.
+fn cut(input: &[u8]) -> Option<(&[u8], &[u8])>
+    ensures { IfSome result (λ parts. length parts.1.now ≤ length input.now) }
 {
-    let mut at = 0;
-    while at + 8 <= n {
-        let list = le32_at(input, at);
-        let middle = at + 8 + le32_at(input, at + 4) as usize;
-        if n < middle + 4 {
+    let (_, images) = input.split_at_checked(4)?;
+    images.split_at_checked(le32_at(input, 0) as usize)
+}
+
+// For each pair of the input its list, four bytes, and the two images, each with its length, four bytes, in front.
+fn put_all(out: &impl Print, input: &[u8]) -> io::Result<()> {
+    let mut rest = input;
+    while let Some((_, pair)) = rest.split_at_checked(4) {
+        let list = le32_at(rest, 0);
+        let Some((firmware, second)) = cut(pair) else {
             return Ok(());
-        }
-        let end = middle + 4 + le32_at(input, middle) as usize;
-        if n < end {
+        };
+        let Some((eeprom, more)) = cut(second) else {
             return Ok(());
-        }
-        put_length(out, b"list ", list as usize)?;
-        put_choice(
-            out,
-            &input[at + 8..middle],
-            &input[middle + 4..end],
-            Kinds::from_bits(list),
-        )?;
-        at = end;
+        };
+        println!(out; "list {list}")?;
+        put_choice(out, firmware, eeprom, Kinds::from_bits(list))?;
+        rest = more;
     }
     Ok(())
 }
 
 fn main(rt: HostRuntime) -> io::Result<()> {
-    let mut input = [0u8; 262144];
-    let n = read_full(&mut rt.stdin(), &mut input);
-    put_all(&rt.stdout(), &input, n)
+    with_front(
+        &rt,
+        &mut [0u8; 262144],
+        |input| put_all(&rt.stdout(), input),
+    )
 }

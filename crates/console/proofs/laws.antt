@@ -4,3 +4,4 @@ pub mod Request
 pub mod Parts
 pub mod Bytes
 pub mod Counts
+pub mod Turns

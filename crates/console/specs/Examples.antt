@@ -1,6 +1,8 @@
 -- What the definitions give on small examples, by computation. Assumes nothing.
-use Rattle.std.specs.Prelude.{true, false, [], ◌∷◌, ◌≡◌, refl}
-use Rattle.console.specs.Request.{before, first_of, semicolons_in, behind, part_of, value, given, decimal_from, number_at, number_in, two_digits, bytes_in, all_pairs, count_in, over}
+use Rattle.std.specs.Prelude.{false, [], ◌∷◌, ◌≡◌, refl, Some, None}
+use Rattle.std.specs.Fmt.{digits}
+use Rattle.console.specs.Show.{place_text}
+use Rattle.console.specs.Request.{before, first_of, semicolons_in, behind, part_of, value, decimal_from, number_at, number_in, two_digits, bytes_in, all_pairs, count_in, over}
 
 -- "7;a;"
 first-semicolon : first_of 0x3B (0x37 ∷ 0x3B ∷ 0x61 ∷ 0x3B ∷ []) ≡ 1
@@ -29,24 +31,24 @@ unfolding part_of behind before
 part-3 = refl
 
 -- " 042 ", at most 42, and at most 41
-number : number_in 42 (0x20 ∷ 0x30 ∷ 0x34 ∷ 0x32 ∷ 0x20 ∷ []) ≡ given true 42
+number : number_in 42 (0x20 ∷ 0x30 ∷ 0x34 ∷ 0x32 ∷ 0x20 ∷ []) ≡ Some 42
 unfolding number_in number_at decimal_from value before
 number = refl
 
-number-over : number_in 41 (0x20 ∷ 0x30 ∷ 0x34 ∷ 0x32 ∷ 0x20 ∷ []) ≡ given false 0
+number-over : number_in 41 (0x20 ∷ 0x30 ∷ 0x34 ∷ 0x32 ∷ 0x20 ∷ []) ≡ None
 unfolding number_in number_at decimal_from value before
 number-over = refl
 
 -- blanks alone; "4 2"; "4A"
-number-none : number_in 99 (0x20 ∷ 0x20 ∷ []) ≡ given false 0
+number-none : number_in 99 (0x20 ∷ 0x20 ∷ []) ≡ None
 unfolding number_in number_at decimal_from value before
 number-none = refl
 
-number-two : number_in 99 (0x34 ∷ 0x20 ∷ 0x32 ∷ []) ≡ given false 0
+number-two : number_in 99 (0x34 ∷ 0x20 ∷ 0x32 ∷ []) ≡ None
 unfolding number_in number_at decimal_from value before
 number-two = refl
 
-number-hexadecimal : number_in 99 (0x34 ∷ 0x41 ∷ []) ≡ given false 0
+number-hexadecimal : number_in 99 (0x34 ∷ 0x41 ∷ []) ≡ None
 unfolding number_in number_at decimal_from value before
 number-hexadecimal = refl
 
@@ -55,12 +57,12 @@ bytes : bytes_in (0x20 ∷ 0x30 ∷ 0x61 ∷ 0x46 ∷ 0x39 ∷ 0x20 ∷ []) ≡ 
 unfolding bytes_in two_digits value
 bytes = refl
 
-bytes-counted : count_in 2 (0x20 ∷ 0x30 ∷ 0x61 ∷ 0x46 ∷ 0x39 ∷ 0x20 ∷ []) ≡ given true 2
+bytes-counted : count_in 2 (0x20 ∷ 0x30 ∷ 0x61 ∷ 0x46 ∷ 0x39 ∷ 0x20 ∷ []) ≡ Some 2
 unfolding count_in all_pairs bytes_in two_digits value
 bytes-counted = refl
 
 -- no room for the second
-bytes-over : count_in 1 (0x20 ∷ 0x30 ∷ 0x61 ∷ 0x46 ∷ 0x39 ∷ 0x20 ∷ []) ≡ given false 0
+bytes-over : count_in 1 (0x20 ∷ 0x30 ∷ 0x61 ∷ 0x46 ∷ 0x39 ∷ 0x20 ∷ []) ≡ None
 unfolding count_in all_pairs bytes_in two_digits value
 bytes-over = refl
 
@@ -85,3 +87,8 @@ over-longer = refl
 over-shorter : over (1 ∷ 2 ∷ []) (7 ∷ []) ≡ 1 ∷ []
 unfolding over
 over-shorter = refl
+
+-- "26 (1Ah)"
+place : place_text 26 ≡ 0x32 ∷ 0x36 ∷ 0x20 ∷ 0x28 ∷ 0x31 ∷ 0x41 ∷ 0x68 ∷ 0x29 ∷ []
+unfolding digits
+place = refl

@@ -2,4 +2,5 @@
 pub mod Counts
 pub mod Digit
 pub mod Request
+pub mod Show
 pub mod Examples

@@ -1,9 +1,6 @@
 -- The parts of a request, as docs/WRITING.md has them: a line with semicolons (3Bh) between them; decimal numbers, and bytes in hexadecimal.
 -- Assumes nothing.
-use Rattle.std.specs.Prelude.{ℕ, zero, suc, ◌+◌, ◌-◌, ◌*◌, Bool, true, false, cond, not, ◌&&◌, List, [], ◌∷◌, eqb, leb, ltb, length, take, drop}
-use Rattle.console.specs.declared.request.Part.{Part}
-use Rattle.console.specs.declared.request.Stop.{Stop}
-use Rattle.console.specs.declared.request.Stop.TheVariants.{Found, NoBlank, NoDigit}
+use Rattle.std.specs.Prelude.{ℕ, zero, suc, ◌+◌, ◌-◌, ◌*◌, Bool, true, false, cond, not, ◌&&◌, List, [], ◌∷◌, eqb, leb, ltb, length, take, drop, Option, Some, None}
 
 -- how many elements come before the first that passes the test; all of them where none does
 unfoldable pub before : (ℕ → Bool) → List ℕ → ℕ
@@ -41,24 +38,29 @@ unfoldable pub value : ℕ → ℕ
 value c =
     cond (within 0x30 0x39 c) (c - 0x30) (cond (within 0x41 0x46 c) (c - 0x41 + 10) (cond (within 0x61 0x66 c) (c - 0x61 + 10) 16))
 
--- where a search stops: at a byte b, at what is no blank, at what is no decimal digit
-abbrev pub stops : Stop → ℕ → Bool
-stops (Found b) = λ c. eqb c b
-stops NoBlank = λ c. not (eqb c 0x20)
-stops NoDigit = λ c. ltb 9 (value c)
+-- a number that is given or none: of a part that can be read, the number that it is or how many bytes it gives
+abbrev pub given : Bool → ℕ → Option ℕ
+given true n = Some n
+given false n = None
 
--- a part that is good has a number, or a count of bytes; one that is not has 0
-abbrev pub given : Bool → ℕ → Part
-given true n = record { good = true; count = n }
-given false n = record { good = false; count = 0 }
+-- what a digit stands for, given for a digit alone
+abbrev pub digit_value : ℕ → Option ℕ
+digit_value c = given (ltb (value c) 16) (value c)
+
+-- whether a character is no blank, and no decimal digit
+abbrev pub no_blank : ℕ → Bool
+no_blank c = not (eqb c 0x20)
+
+abbrev pub no_digit : ℕ → Bool
+no_digit c = ltb 9 (value c)
 
 -- how many blanks are at the front
 abbrev pub blanks : List ℕ → ℕ
-blanks l = before (stops NoBlank) l
+blanks l = before no_blank l
 
 -- how many decimal digits are at the front
 abbrev pub digits : List ℕ → ℕ
-digits l = before (stops NoDigit) l
+digits l = before no_digit l
 
 -- the number that decimal digits spell, behind digits that spell n
 unfoldable pub decimal_from : ℕ → List ℕ → ℕ
@@ -66,23 +68,27 @@ decimal_from n [] = n
 decimal_from n (c ∷ cs) = decimal_from (n * 10 + value c) cs
 
 -- the number that decimal digits spell, if it is at most `most`
-abbrev pub decimal_in : ℕ → List ℕ → Part
+abbrev pub decimal_in : ℕ → List ℕ → Option ℕ
 decimal_in most l = given (leb (decimal_from 0 l) most) (decimal_from 0 l)
 
 -- a text that begins with its digits: there is one, only blanks are behind them, and the number is at most `most`
-unfoldable pub number_at : ℕ → List ℕ → Part
+unfoldable pub number_at : ℕ → List ℕ → Option ℕ
 number_at most text =
     let n = digits text in
     let rest = drop n text in
-    cond (ltb 0 n && eqb (blanks rest) (length rest)) (decimal_in most (take n text)) (given false 0)
+    cond (ltb 0 n && eqb (blanks rest) (length rest)) (decimal_in most (take n text)) None
 
 -- a decimal number, at most `most`, with blanks around it
-unfoldable pub number_in : ℕ → List ℕ → Part
+unfoldable pub number_in : ℕ → List ℕ → Option ℕ
 number_in most part = number_at most (drop (blanks part) part)
 
 -- the byte of two digits; 256 if one is no digit
 unfoldable pub two_digits : ℕ → ℕ → ℕ
 two_digits c d = cond (ltb 15 (value c)) 256 (cond (ltb 15 (value d)) 256 (value c * 16 + value d))
+
+-- the same, given for two digits alone
+abbrev pub pair_value : ℕ → ℕ → Option ℕ
+pair_value c d = given (ltb (two_digits c d) 256) (two_digits c d)
 
 -- the bytes of pairs of digits, blanks left out, up to the end or to what is no pair
 unfoldable pub bytes_in : List ℕ → List ℕ
@@ -103,7 +109,7 @@ all_pairs (c ∷ (d ∷ cs)) =
     cond (eqb c 0x20) next (ltb (two_digits c d) 256 && more)
 
 -- how many bytes a part gives: nothing else is in it, and there is room for them
-unfoldable pub count_in : ℕ → List ℕ → Part
+unfoldable pub count_in : ℕ → List ℕ → Option ℕ
 count_in room part = let n = length (bytes_in part) in given (all_pairs part && leb n room) n
 
 -- a buffer with bytes put over its front, as far as there is room; the rest as it was

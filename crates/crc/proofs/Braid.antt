@@ -7,10 +7,10 @@ use mathlib.Core.List.{List, [], ◌∷◌}
 use Prim.Native.Nat.{ℕ, zero, suc, ◌+◌, ◌*◌}
 use native.Mathlib.Nat.{add_comm}
 use native.Mathlib.Omega.{arith}
-use lib.Bits.{bit_xor, xor_zero_r}
+use lib.Bits.{bit_xor, xor_assoc, xor_zero_r}
 use lib.ListN.{length}
 use Rattle.crc.specs.Crc32.{shift, shifts}
-use Rattle.crc.proofs.laws.Xor.{xor-assoc, xor4}
+use Rattle.crc.proofs.laws.Xor.{xor4}
 use Rattle.crc.proofs.laws.Crc32.{shifts-xor, shifts-add}
 
 -- nothing stays nothing
@@ -58,7 +58,7 @@ module _ {A : Type 0} where
       ∙ ap (λ (x : ℕ). bit_xor x (shifts 64 (mix f l)))
       (ap (shifts n) (shifts-xor 64 r (f p)) ∙ shifts-xor n (shifts 64 r) (shifts 64 (f p))
       ∙ ap₂ bit_xor (sym (shifts-add 64 n r) ∙ ap (λ (k : ℕ). shifts k r) e) (shifts-comm n 64 (f p)))
-      ∙ xor-assoc (shifts (64 * suc (length l)) r) (shifts 64 (shifts n (f p))) (shifts 64 (mix f l))
+      ∙ xor_assoc (shifts (64 * suc (length l)) r) (shifts 64 (shifts n (f p))) (shifts 64 (mix f l))
       ∙ ap (bit_xor (shifts (64 * suc (length l)) r)) (sym (shifts-xor 64 (shifts n (f p)) (mix f l)))
 
   -- R is the register that the lanes f stand for, all but one word's shift; g the next words; q the bits of all lanes but one

@@ -1,18 +1,20 @@
--- A run of CRC-32 over bytes: bytes all at once, as the number that they spell (`run-word`), and eight at a time (`run-next`).
+-- A run of CRC-32 over bytes: bytes all at once, as the number that they spell (`run-word`), and in chunks of so many (`run-chunks`).
 -- Assumes nothing.
-use Prim.Native.Nat.{ℕ, zero, suc, ◌+◌, ◌-◌, ◌*◌, ◌≤◌, ◌<◌}
+use Prim.Native.Nat.{ℕ, zero, suc, ◌+◌, ◌*◌, ◌/◌, ◌≤◌, ◌<◌}
 use mathlib.Core.List.{List, [], ◌∷◌}
-use mathlib.Core.Path.{◌≡◌, sym, ap, ap₂, ◌∙◌}
-use native.Mathlib.Nat.{le_of_eq}
+use mathlib.Core.Path.{◌≡◌, refl, sym, ap, ◌∙◌}
+use native.Mathlib.Nat.{le_of_eq, zero-mul, suc-mul, add_comm}
 use native.Mathlib.Omega.{arith}
-use lib.Bits.{bit_xor, xor_comm, xor_zero_r, xor_shifted}
-use lib.ListN.{length, take, drop, take-append-drop, length-take, length-drop}
-use lib.Seq.{take-add, take_all}
+use lib.Bits.{bit_xor, xor_assoc, xor_comm, xor_zero_r, xor_shifted}
+use lib.ListN.{length, get_or, take, drop, take-append-drop, length-drop}
+use lib.Seq.{drop-drop}
+use Rattle.std.proofs.lemmas.List.{drop_all, length-take-le}
+use Rattle.std.specs.List.{fold}
+use Rattle.std.specs.Simd.{first_chunks}
 use Rattle.octets.specs.Bytes.{Octets, little}
 use Rattle.octets.proofs.laws.Bytes.{octets-take, octets-drop}
 use Rattle.crc.specs.Crc32.{shifts, step32, run32}
 use Rattle.crc.proofs.laws.Crc32.{shifts-xor, shifts-add, shifts-up, run32-append}
-use Rattle.crc.proofs.laws.Xor.{xor-assoc}
 
 -- a byte, and what stands above it
 step-word : (c b w : ℕ) → b < 256 → bit_xor (step32 c b) w ≡ shifts 8 (bit_xor c (b + 256 * w))
@@ -21,7 +23,7 @@ step-word c b w h =
     let e : w * 256 + b ≡ b + 256 * w = omega arith in
     ap (bit_xor (shifts 8 (bit_xor c b))) (sym (shifts-up 8 w))
     ∙ sym (shifts-xor 8 (bit_xor c b) (w * 256))
-    ∙ ap (shifts 8) (xor-assoc c b (w * 256) ∙ ap (bit_xor c) (xor_comm b (w * 256) ∙ xor_shifted w 8 b h ∙ e))
+    ∙ ap (shifts 8) (xor_assoc c b (w * 256) ∙ ap (bit_xor c) (xor_comm b (w * 256) ∙ xor_shifted w 8 b h ∙ e))
 
 -- the bytes may be added all at once
 run-word : (bs : List ℕ) → Octets bs → (c : ℕ) → run32 c bs ≡ shifts (8 * length bs) (bit_xor c (little bs))
@@ -34,40 +36,49 @@ run-word (b ∷ bs) h c =
     ∙ sym (shifts-add 8 (8 * length bs) (bit_xor c (b + 256 * little bs)))
     ∙ ap (λ (k : ℕ). shifts k (bit_xor c (b + 256 * little bs))) e
 
--- n of them from i on
-pub run-part : (c : ℕ) (s : List ℕ) (i n : ℕ) → i + n ≤ length s → Octets s
-    → run32 c (take n (drop i s)) ≡ shifts (8 * n) (bit_xor c (little (take n (drop i s))))
-run-part c s i n h o =
-    let e : length (take n (drop i s)) ≡ n = simp (length-take, length-drop) (omega arith) in
-    run-word (take n (drop i s)) (octets-take n (drop i s) (octets-drop i s o)) c
-    ∙ ap (λ (k : ℕ). shifts (8 * k) (bit_xor c (little (take n (drop i s))))) e
+-- n bytes that spell w
+pub run-spelled : (c : ℕ) (bs : List ℕ) (n w : ℕ) → length bs ≡ n → Octets bs → w ≡ little bs → run32 c bs ≡ shifts (8 * n) (bit_xor c w)
+run-spelled c bs n w e o spelled =
+    run-word bs o c ∙ ap (λ (k : ℕ). shifts (8 * k) (bit_xor c (little bs))) e ∙ ap (λ (x : ℕ). shifts (8 * n) (bit_xor c x)) (sym spelled)
 
--- n bytes from i on that spell w
-pub run-spelled : (c : ℕ) (s : List ℕ) (i n w r : ℕ) → i + n ≤ length s → Octets s → w ≡ little (take n (drop i s)) → r ≡ shifts (8 * n) (bit_xor c w)
-    → r ≡ run32 c (take n (drop i s))
-run-spelled c s i n w r h o spelled told =
-    told ∙ ap (λ (x : ℕ). shifts (8 * n) (bit_xor c x)) spelled ∙ sym (run-part c s i n h o)
+-- n bytes, and on from there
+pub run-split : (n c : ℕ) (s : List ℕ) → run32 (run32 c (take n s)) (drop n s) ≡ run32 c s
+run-split n c s = sym (run32-append c (take n s) (drop n s)) ∙ ap (run32 c) (take-append-drop n s)
 
--- the number that eight bytes spell from i on
-abbrev pub at8 : List ℕ → ℕ → ℕ
-at8 s i = little (take 8 (drop i s))
+-- q chunks of n bytes, and on from there
+pub run-chunks : (n q c : ℕ) (s : List ℕ) → run32 (fold run32 c (first_chunks n q s)) (drop (q * n) s) ≡ run32 c s
+run-chunks n zero c s = ap (λ (k : ℕ). run32 c (drop k s)) (zero-mul n)
+run-chunks n (suc q) c s =
+    let e : n + q * n ≡ suc q * n = add_comm n (q * n) ∙ sym (suc-mul q n) in
+    ap (run32 (fold run32 c (first_chunks n (suc q) s))) (ap (λ (k : ℕ). drop k s) (sym e) ∙ sym (drop-drop (q * n) n s))
+    ∙ run-chunks n q (run32 c (take n s)) (drop n s) ∙ run-split n c s
 
--- n bytes more, from i on
-pub run-more : (c : ℕ) (s : List ℕ) (i n : ℕ) → run32 c (take (i + n) s) ≡ run32 (run32 c (take i s)) (take n (drop i s))
-run-more c s i n = ap (run32 c) (take-add i n s) ∙ run32-append c (take i s) (take n (drop i s))
+-- ---- a block of four words of eight bytes
+-- a word
+pub record Word (w : List ℕ) : Type 0 where
+  pub size : length w ≡ 8
+  pub bytes : Octets w
 
--- eight bytes more, from i to j
-pub run-next : (c : ℕ) (s : List ℕ) (i j R : ℕ) → i + 8 ≡ j → j ≤ length s → Octets s → run32 c (take i s) ≡ R
-    → run32 c (take j s) ≡ shifts 64 (bit_xor R (at8 s i))
-run-next c s i j R e h o p =
-    ap (λ (n : ℕ). run32 c (take n s)) (sym e)
-    ∙ run-more c s i 8 ∙ run-part (run32 c (take i s)) s i 8 (omega arith) o
-    ∙ ap (λ (x : ℕ). shifts 64 (bit_xor x (at8 s i))) p
+-- a word more
+pub run-more : (c : ℕ) (w : List ℕ) → Word w → run32 c w ≡ shifts 64 (bit_xor c (little w))
+run-more c w h = run-spelled c w 8 (little w) h.size h.bytes refl
 
--- the part from k on is what is left
-pub part-rest : (s : List ℕ) (k : ℕ) → take (length s - k) (drop k s) ≡ drop k s
-part-rest s k = take_all (length s - k) (drop k s) (le_of_eq (length-drop k s))
+-- ws are the words of the block s, and a run over them is one over it
+pub record Block (s : List ℕ) (ws : List (List ℕ)) : Type 0 where
+  pub word : (k : ℕ) → k < 4 → Word (get_or ws k [])
+  pub run : (c : ℕ) → run32 (run32 (run32 (run32 c (get_or ws 0 [])) (get_or ws 1 [])) (get_or ws 2 [])) (get_or ws 3 []) ≡ run32 c s
 
--- a run to k, and on from there
-pub run-on : (c r : ℕ) (s tail : List ℕ) (k : ℕ) → r ≡ run32 c (take k s) → tail ≡ drop k s → run32 r tail ≡ run32 c s
-run-on c r s tail k p e = ap₂ run32 p e ∙ sym (run32-append c (take k s) (drop k s)) ∙ ap (run32 c) (take-append-drop k s)
+-- word k of n
+chunk-word : (n k : ℕ) (s : List ℕ) → n * 8 ≤ length s → Octets s → k < n → Word (get_or (first_chunks 8 n s) k [])
+chunk-word zero k s h o l = absurd (omega arith)
+chunk-word (suc n) zero s h o l = record { size = length-take-le 8 s (omega arith); bytes = octets-take 8 s o }
+chunk-word (suc n) (suc k) s h o l = chunk-word n k (drop 8 s) (omega (arith, length-drop 8 s)) (octets-drop 8 s o) (omega arith)
+
+pub block : (s : List ℕ) (ws : List (List ℕ)) → length s ≡ 32 → Octets s → ws ≡ first_chunks 8 (length s / 8) s → Block s ws
+block s ws h o e =
+    let p : ws ≡ first_chunks 8 4 s = e ∙ ap (λ (n : ℕ). first_chunks 8 (n / 8) s) h in
+    rw p
+    (record {
+      word = λ k l. chunk-word 4 k s (omega arith) o l;
+      run = λ c. ap (run32 (fold run32 c (first_chunks 8 4 s))) (sym (drop_all 32 s (le_of_eq h))) ∙ run-chunks 8 4 c s;
+    })

@@ -1,4 +1,4 @@
--- What the inner functions say to each other: what a table holds, and what four lanes stand for. No contract of a public function cites this.
+-- What a table holds, which the types of tables state of their entries, and what four lanes stand for. No contract of a public function cites this.
 -- Assumes nothing.
 use Rattle.std.specs.Prelude.{◌≡◌, List, ℕ, ◌+◌, ◌-◌, ◌*◌, ◌^◌, ◌<◌, get_or}
 use Rattle.std.specs.Int.Bits.{bit_xor}

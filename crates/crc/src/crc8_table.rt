@@ -1,4 +1,6 @@
 // The table of CRC-8.
+ghost use Rattle.std.specs.Prelude.{◌≡◌};
+ghost use Rattle.crc.specs.Crc8.{eight_zeros};
 ghost use Rattle.crc.specs.Tables.{Remainders};
 
 // The entry v is what is left of v after eight zero bits.
@@ -21,9 +23,25 @@ const REMAINDERS: [u8; 256] = [
     0xDE, 0xD9, 0xD0, 0xD7, 0xC2, 0xC5, 0xCC, 0xCB, 0xE6, 0xE1, 0xE8, 0xEF, 0xFA, 0xFD, 0xF4, 0xF3,
 ];
 
-// The array is written out in each call: a caller has it once and lends it.
-pub(crate) fn remainders() -> [u8; 256]
-    ensures { Remainders result }
-{
-    REMAINDERS
+// What eight zero bits leave of each byte.
+#[derive(Drop)]
+pub(crate) struct RemainderTable {
+    entries: [u8; 256],
+    ghost right: { Remainders entries },
+}
+
+impl RemainderTable {
+    // The array is written out in each call: a caller has it once and lends it.
+    pub(crate) fn new() -> Self {
+        RemainderTable {
+            entries: REMAINDERS,
+        }
+    }
+
+    // What eight zero bits leave of v.
+    pub(crate) fn left(&self, v: u8) -> u8
+        ensures { result ≡ eight_zeros v }
+    {
+        self.entries[v as usize]
+    }
 }

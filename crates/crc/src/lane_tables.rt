@@ -1,5 +1,5 @@
 // The tables of 256 shifts, by bytes.
-ghost use Rattle.crc.specs.Tables.{Table};
+use super::tables::Tables;
 
 // Eight tables of 256 entries: the entry 256 j + v is what 256 - 8 j shifts make of v.
 const LANE_TABLES: [u32; 2048] = [
@@ -261,9 +261,14 @@ const LANE_TABLES: [u32; 2048] = [
     0xD235504F, 0x77BEC041, 0x42537612, 0xE7D8E61C, 0x29881AB4, 0x8C038ABA, 0xB9EE3CE9, 0x1C65ACE7,
 ];
 
-// The array is written out in each call: a caller has it once and lends it.
-pub(crate) fn lane_tables() -> [u32; 2048]
-    ensures { Table 8 256 result }
-{
-    LANE_TABLES
+// What 256 shifts make of each byte of a word.
+pub(crate) type LaneTables = Tables<8, 256, 2048>;
+
+impl LaneTables {
+    // The array is written out in each call: a caller has it once and lends it. (`WordTables` has one of its own: an array is no parameter of a type.)
+    pub(crate) fn new() -> Self {
+        Tables {
+            entries: LANE_TABLES,
+        }
+    }
 }

@@ -7,6 +7,6 @@ pub mod crc8;
 mod crc8_table;
 mod lane_tables;
 mod lanes;
-mod load;
+mod tables;
 mod word_tables;
 mod words;

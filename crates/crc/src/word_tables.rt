@@ -1,5 +1,5 @@
 // The tables of 64 shifts, by four bits.
-ghost use Rattle.crc.specs.Tables.{Table};
+use super::tables::Tables;
 
 // Sixteen tables of sixteen entries: the entry 16 j + v is what 64 - 4 j shifts make of v.
 const WORD_TABLES: [u32; 256] = [
@@ -37,9 +37,14 @@ const WORD_TABLES: [u32; 256] = [
     0xEDB88320, 0xF00F9344, 0xD6D6A3E8, 0xCB61B38C, 0x9B64C2B0, 0x86D3D2D4, 0xA00AE278, 0xBDBDF21C,
 ];
 
-// The array is written out in each call: a caller has it once and lends it.
-pub(crate) fn word_tables() -> [u32; 256]
-    ensures { Table 4 64 result }
-{
-    WORD_TABLES
+// What 64 shifts make of each four bits of a word.
+pub(crate) type WordTables = Tables<4, 64, 256>;
+
+impl WordTables {
+    // The array is written out in each call: a caller has it once and lends it. (`LaneTables` has one of its own: an array is no parameter of a type.)
+    pub(crate) fn new() -> Self {
+        Tables {
+            entries: WORD_TABLES,
+        }
+    }
 }

@@ -12,12 +12,12 @@ ghost use Rattle.kinds.specs.Kinds.{from_bits};
 ghost use Rattle.tiny.specs.Answers.{name_of};
 ghost use Rattle.tiny.specs.Values.{name_said};
 ghost use Rattle.tiny_rules.specs.Judged as tiny;
-ghost use Rattle.verdict.specs.Said.{says, refused, judged_said};
+ghost use Rattle.verdict.specs.Said.{says, refused, said_by, judged_said};
 
-use choice::{ChoiceAnswer, choice};
+use choice::{Part, choice};
 use kinds::Kinds;
-use tiny::{NameAnswer, name};
-use verdict::{Judged, Refusal};
+use tiny::name;
+use verdict::Refusal;
 
 // A count or a length, in bits 0 to 31.
 pub fn value_number(value: usize) -> u64
@@ -36,34 +36,24 @@ pub fn refusal_number(refusal: Refusal) -> u64
     both
 }
 
-// What a judge answers.
-fn judged_number(judgement: Judged) -> u64
-    ensures { result ≡ number (judged_said judgement) }
-{
-    match judgement {
-        Judged::Accepted(count) => value_number(count),
-        Judged::Refused(refusal) => refusal_number(refusal),
-    }
-}
-
-// What is answered for the name.
-fn name_number(answer: NameAnswer) -> u64
-    ensures { result ≡ number (name_said answer) }
+// What is answered with a count or a length, as by a judge, for the name and for a list; or the refusal.
+pub fn answer_number(answer: Result<usize, Refusal>) -> u64
+    ensures { result ≡ number (said_by (λ n. n) answer) }
 {
     match answer {
-        NameAnswer::Length(length) => value_number(length),
-        NameAnswer::Refused(refusal) => refusal_number(refusal),
+        Ok(value) => value_number(value),
+        Err(refusal) => refusal_number(refusal),
     }
 }
 
 // What is answered for the choice: the length, with bit 40 set for the EEPROM image; or the firmware image's refusal.
-fn choice_number(answer: ChoiceAnswer) -> u64
+fn choice_number(answer: Result<Part, Refusal>) -> u64
     ensures { result ≡ chosen_number (choice_said answer) }
 {
     match answer {
-        ChoiceAnswer::Firmware(length) => value_number(length),
-        ChoiceAnswer::Eeprom(length) => 0x100_0000_0000 + value_number(length),
-        ChoiceAnswer::Neither(refusal) => refusal_number(refusal),
+        Ok(Part::Firmware(length)) => value_number(length),
+        Ok(Part::Eeprom(length)) => 0x100_0000_0000 + value_number(length),
+        Err(refusal) => refusal_number(refusal),
     }
 }
 
@@ -71,14 +61,14 @@ fn choice_number(answer: ChoiceAnswer) -> u64
 pub fn chip_tiny_judge(image: &[u8], kinds: u32) -> u64
     ensures { result ≡ number (judged_said (tiny.judged (from_bits kinds) image.now)) }
 {
-    judged_number(tiny_rules::judge(image, Kinds::from_bits(kinds)))
+    answer_number(tiny_rules::judge(image, Kinds::from_bits(kinds)))
 }
 
 // The judge of board images: the count of items, or the refusal.
 pub fn chip_board_judge(image: &[u8], kinds: u32) -> u64
     ensures { result ≡ number (judged_said (board.judged (from_bits kinds) image.now)) }
 {
-    judged_number(board_rules::judge(image, Kinds::from_bits(kinds)))
+    answer_number(board_rules::judge(image, Kinds::from_bits(kinds)))
 }
 
 // Which of a firmware image and an EEPROM image is chosen, and how many of its bytes: its StructLen; or the firmware image's refusal, if neither is accepted.
@@ -92,7 +82,7 @@ pub fn chip_board_choice(firmware: &[u8], eeprom: &[u8], kinds: u32) -> u64
 pub fn chip_tiny_name(image: &[u8], kinds: u32, buffer: &mut [u8]) -> u64
     ensures { (result, buffer.new) ≡ numbered name_said (name_of (from_bits kinds) image.now buffer.old) }
 {
-    name_number(name(image, Kinds::from_bits(kinds), buffer))
+    answer_number(name(image, Kinds::from_bits(kinds), buffer))
 }
 
 // The version of these functions, for a caller to hold against that of its header.

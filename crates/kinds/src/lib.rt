@@ -32,7 +32,8 @@ pub const U_CODE: u64 = 0x0024_6564_6F43_7524; // $uCode$
 
 pub const VIDEO: u64 = 0x0024_6F65_6469_5624; // $Video$
 
-// A kind of item: a tiny tag, or the eight bytes of a board structure's signature as the number they spell, the first lowest.
+// A kind of item: a tiny tag, or the eight bytes of a board structure's signature as the number they spell, the first lowest. (Numbers, since an image may
+// have any of them, and those that no table names are shown too.)
 #[derive(Clone, Copy)]
 pub enum Kind {
     Tag(u8),
@@ -173,7 +174,8 @@ impl Kinds {
         }
     }
 
-    // The list with one tiny tag more.
+    // The list with one tiny tag more. (A function for tags and one for signatures, as for `has`: they set different fields, so one over a kind would have
+    // the lines of both.)
     fn with_tag(mut self, tag: u8) -> Kinds
         ensures { result ≡ extended self (Kind.Tag tag) }
     {

@@ -1,14 +1,13 @@
 -- What the definitions give on small examples, by computation: numbers, runs, bytes put, items cut, and labels good and bad. Assumes nothing.
-use Rattle.std.specs.Prelude.{ℕ, ◌+◌, true, List, [], ◌∷◌, ◌++◌, ◌≡◌, refl, replicate}
+use Rattle.std.specs.Prelude.{ℕ, ◌+◌, true, List, [], ◌∷◌, ◌++◌, ◌≡◌, refl, replicate, Some, None}
 use Rattle.chain.specs.Chain.{visit, chain}
 use Rattle.chain.specs.Fill.{tab}
 use Rattle.chain.specs.First.{first}
-use Rattle.chain.specs.declared.Found.TheVariants.{At, Nothing}
-use Rattle.octets.specs.Bytes.{byte, spelled, le16, le32}
+use Rattle.octets.specs.Bytes.{byte, spelled, le16, le32, run}
 use Rattle.octets.specs.Cut.{cut}
 use Rattle.octets.specs.Label.{is_text, is_label_text, text_end, bad_label}
 use Rattle.octets.specs.Put.{put}
-use Rattle.octets.specs.Runs.{six_at, eight_at, sixteen_at, six_bytes, eight_bytes, sixteen_bytes, difference, same_run, nonzero}
+use Rattle.octets.specs.Runs.{difference, same_run, nonzero}
 
 -- the first byte is the lowest; past the end a byte reads as 0
 number : le16 (0x00 ∷ 0x34 ∷ 0x12 ∷ []) 1 ≡ 0x1234
@@ -27,20 +26,20 @@ number-spelled = refl
 abbrev different : List ℕ
 different = 0xA0 ∷ 0xA1 ∷ 0xA2 ∷ 0xA3 ∷ 0xA4 ∷ 0xA5 ∷ 0xA6 ∷ 0xA7 ∷ 0xA8 ∷ 0xA9 ∷ 0xAA ∷ 0xAB ∷ 0xAC ∷ 0xAD ∷ 0xAE ∷ 0xAF ∷ 0xB0 ∷ 0xB1 ∷ 0xB2 ∷ []
 
-six-bytes : six_bytes (six_at different 2) ≡ 0xA2 ∷ 0xA3 ∷ 0xA4 ∷ 0xA5 ∷ 0xA6 ∷ 0xA7 ∷ []
-unfolding six_at tab
+six-bytes : run different 2 6 ≡ 0xA2 ∷ 0xA3 ∷ 0xA4 ∷ 0xA5 ∷ 0xA6 ∷ 0xA7 ∷ []
+unfolding tab
 six-bytes = refl
 
-eight-bytes : eight_bytes (eight_at different 2) ≡ 0xA2 ∷ 0xA3 ∷ 0xA4 ∷ 0xA5 ∷ 0xA6 ∷ 0xA7 ∷ 0xA8 ∷ 0xA9 ∷ []
-unfolding eight_at tab
+eight-bytes : run different 2 8 ≡ 0xA2 ∷ 0xA3 ∷ 0xA4 ∷ 0xA5 ∷ 0xA6 ∷ 0xA7 ∷ 0xA8 ∷ 0xA9 ∷ []
+unfolding tab
 eight-bytes = refl
 
-sixteen-bytes : sixteen_bytes (sixteen_at different 2)
+sixteen-bytes : run different 2 16
     ≡ 0xA2 ∷ 0xA3 ∷ 0xA4 ∷ 0xA5 ∷ 0xA6 ∷ 0xA7 ∷ 0xA8 ∷ 0xA9 ∷ 0xAA ∷ 0xAB ∷ 0xAC ∷ 0xAD ∷ 0xAE ∷ 0xAF ∷ 0xB0 ∷ 0xB1 ∷ []
-unfolding sixteen_at tab
+unfolding tab
 sixteen-bytes = refl
 
-differing : difference (1 ∷ 2 ∷ 3 ∷ 4 ∷ []) 0 (0 ∷ 1 ∷ 2 ∷ 9 ∷ []) 1 4 ≡ At 2
+differing : difference (1 ∷ 2 ∷ 3 ∷ 4 ∷ []) 0 (0 ∷ 1 ∷ 2 ∷ 9 ∷ []) 1 4 ≡ Some 2
 unfolding difference first chain visit
 differing = refl
 
@@ -87,32 +86,32 @@ abbrev top1 : List ℕ
 top1 = 0x74 ∷ 0x6F ∷ 0x70 ∷ 0x31 ∷ []
 
 -- '$' and zeros after it
-label-ended : bad_label (top1 ++ (0x24 ∷ replicate 11 0)) 0 ≡ Nothing
+label-ended : bad_label (top1 ++ (0x24 ∷ replicate 11 0)) 0 ≡ None
 unfolding bad_label text_end is_label_text is_text nonzero first chain visit
 label-ended = refl
 
 -- sixteen characters; fifteen and '$'; none and '$'
-label-full : bad_label (top1 ++ (top1 ++ (top1 ++ top1))) 0 ≡ Nothing
+label-full : bad_label (top1 ++ (top1 ++ (top1 ++ top1))) 0 ≡ None
 unfolding bad_label text_end is_label_text is_text nonzero first chain visit
 label-full = refl
 
-label-fifteen : bad_label (replicate 15 0x20 ++ (0x24 ∷ [])) 0 ≡ Nothing
+label-fifteen : bad_label (replicate 15 0x20 ++ (0x24 ∷ [])) 0 ≡ None
 unfolding bad_label text_end is_label_text is_text nonzero first chain visit
 label-fifteen = refl
 
-label-empty : bad_label (0x24 ∷ replicate 15 0) 0 ≡ Nothing
+label-empty : bad_label (0x24 ∷ replicate 15 0) 0 ≡ None
 unfolding bad_label text_end is_label_text is_text nonzero first chain visit
 label-empty = refl
 
 -- no '$' after the text; no text and no '$'; the last byte is not zero. The label stands at place 1 of the list
-label-unended : bad_label (0 ∷ top1 ++ replicate 12 0) 1 ≡ At 5
+label-unended : bad_label (0 ∷ top1 ++ replicate 12 0) 1 ≡ Some 5
 unfolding bad_label text_end is_label_text is_text nonzero first chain visit
 label-unended = refl
 
-label-zeros : bad_label (0 ∷ replicate 16 0) 1 ≡ At 1
+label-zeros : bad_label (0 ∷ replicate 16 0) 1 ≡ Some 1
 unfolding bad_label text_end is_label_text is_text nonzero first chain visit
 label-zeros = refl
 
-label-dirty : bad_label (0 ∷ 0x24 ∷ replicate 14 0 ++ (1 ∷ [])) 1 ≡ At 16
+label-dirty : bad_label (0 ∷ 0x24 ∷ replicate 14 0 ++ (1 ∷ [])) 1 ≡ Some 16
 unfolding bad_label text_end is_label_text is_text nonzero first chain visit
 label-dirty = refl

@@ -1,10 +1,9 @@
 -- Text, and labels. Paper 01: "A label is text (empty allowed) of characters 20h to 7Eh other than '$', then '$', then zeros; or sixteen such characters."
 -- Its bad byte is the first that no good label with the same beginning has. Assumes nothing.
-use Rattle.std.specs.Prelude.{ℕ, ◌+◌, ◌≤◌, ◌<◌, Bool, true, not, ◌&&◌, List, ◌⊎◌, ◌≡◌, eqb, leb, length}
+use Rattle.std.specs.Prelude.{ℕ, ◌+◌, ◌≤◌, ◌<◌, Bool, true, not, ◌&&◌, List, ◌⊎◌, ◌≡◌, eqb, leb, length, Some, None}
 use Rattle.chain.specs.Chain.{range}
 use Rattle.chain.specs.First.{first, when, or_else}
-use Rattle.chain.specs.declared.Found.{Found}
-use Rattle.chain.specs.declared.Found.TheVariants.{At, Nothing}
+use Rattle.chain.specs.Found.{Found}
 use Rattle.octets.specs.Bytes.{byte, run}
 use Rattle.octets.specs.Runs.{nonzero}
 
@@ -30,8 +29,8 @@ text_end s p = first (λ i. when (no_text s p i) i) (range 0 16)
 
 -- from there on: '$', and zeros
 abbrev pub after_text : List ℕ → ℕ → Found → Found
-after_text s p (At i) = or_else (when (not (eqb (byte s (p + i)) dollar)) (p + i)) (nonzero s p (i + 1) 16)
-after_text s p Nothing = Nothing
+after_text s p (Some i) = or_else (when (not (eqb (byte s (p + i)) dollar)) (p + i)) (nonzero s p (i + 1) 16)
+after_text s p None = None
 
 -- the bad byte of the label at p
 unfoldable pub bad_label : List ℕ → ℕ → Found

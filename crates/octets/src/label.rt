@@ -4,7 +4,6 @@ ghost use Rattle.octets.specs.Label.{is_text, is_label_text, text_end, bad_label
 ghost use Rattle.octets.specs.Runs.{is_nothing};
 
 use super::{byte_from, first_nonzero};
-use chain::Found;
 
 // Whether a byte is a character: 20h to 7Eh.
 pub fn is_text(b: u8) -> bool
@@ -32,46 +31,35 @@ fn all_text(s: &[u8], at: usize) -> bool
     ensures { result ≡ is_nothing (text_end s.now at) }
 {
     let mut all = true;
-    let mut i = 0;
-    while i < 16 {
+    for i in 0..16 {
         let text = is_label_text(s[at + i]);
         all = all && text;
-        i += 1;
     }
     all
 }
 
 // Where the text of the label at a place ends, as an offset, if it does before the sixteen bytes do.
-fn text_end(s: &[u8], at: usize) -> Found
+fn text_end(s: &[u8], at: usize) -> Option<usize>
     ensures { result ≡ text_end s.now at }
 {
-    if at < s.len() {
-        if 16 <= s.len() - at {
-            if all_text(s, at) {
-                return Found::Nothing;
-            }
+    if at < s.len() && 16 <= s.len() - at && all_text(s, at) {
+        return None;
+    }
+    for i in 0..16 {
+        if !is_label_text(byte_from(s, at, i)) {
+            return Some(i);
         }
     }
-    let mut i = 0;
-    while i < 16 {
-        if is_label_text(byte_from(s, at, i)) {
-            i += 1;
-        } else {
-            return Found::At(i);
-        }
-    }
-    Found::Nothing
+    None
 }
 
 // The bad byte of the label at a place.
-pub fn bad_label(s: &[u8], at: usize) -> Found
+pub fn bad_label(s: &[u8], at: usize) -> Option<usize>
     ensures { result ≡ bad_label s.now at }
 {
-    let Found::At(i) = text_end(s, at) else {
-        return Found::Nothing;
-    };
+    let i = text_end(s, at)?;
     if byte_from(s, at, i) == 0x24 {
         return first_nonzero(s, at, i + 1, 16);
     }
-    Found::At(at + i)
+    Some(at + i)
 }

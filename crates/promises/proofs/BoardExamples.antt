@@ -30,7 +30,7 @@ use Rattle.kinds.specs.Kinds.{listed, picked, all, full, same}
 use Rattle.kinds.proofs.laws.Kinds.{full-contains}
 use Rattle.octets.specs.Bytes.{le16, le32, le64, byte}
 use Rattle.octets.specs.Label.{is_text, is_label_text, text_end, bad_label}
-use Rattle.octets.specs.Runs.{sixteen_at, nonzero}
+use Rattle.octets.specs.Runs.{nonzero}
 use Rattle.octets.specs.Rows.{number, part}
 use Rattle.promises.proofs.Demand3.{demand3}
 use Rattle.promises.proofs.Differ.{both, one-of-three}
@@ -51,23 +51,23 @@ use Rattle.kinds.specs.Signatures as signatures
 
 -- ---- `$Logo$` off the list, and another logo
 pub accepts-board : Accepted (answers Board full instances.one)
-unfolding answers hidden item_numbered list_of entry_at onward moved step-shown walked step_numbered map_record_numbered gpio_record_numbered rest_at eeprom_at eepr_map_at brd_info_at item_at map_record_at gpio_record_at judged rule20 rule21 rule22 rule23 rule24 rule25 rule26 rule27 rule28 rule29 rule30 rule31 rule32 rule33 rule34 misplaced gap_used expected out_of_order prom_sig_at covered check_over bad_map_head bad_board_head bad_prom_sig_head bad_hash bad_hash_of hash_size bad_map bad_map_field bad_map_record repeated_label bad_gpio_record bad_board_type reserved_used bad_inside bad_gpio shape_at shape_of listed_shape end_at round16 next map_at board_at later_at records visit chain first nth tab le16 le32 le64 sixteen_at nonzero is_text is_label_text text_end bad_label listed picked all same crc32 shift shifts step32
+unfolding answers hidden item_numbered list_of entry_at onward moved step-shown walked step_numbered map_record_numbered gpio_record_numbered rest_at eeprom_at eepr_map_at brd_info_at item_at map_record_at gpio_record_at judged rule20 rule21 rule22 rule23 rule24 rule25 rule26 rule27 rule28 rule29 rule30 rule31 rule32 rule33 rule34 misplaced gap_used expected out_of_order prom_sig_at covered check_over bad_map_head bad_board_head bad_prom_sig_head bad_hash bad_hash_of hash_size bad_map bad_map_field bad_map_record repeated_label bad_gpio_record bad_board_type reserved_used bad_inside bad_gpio shape_at shape_of listed_shape end_at round16 next map_at board_at later_at records visit chain first nth tab le16 le32 le64 nonzero is_text is_label_text text_end bad_label listed picked all same crc32 shift shifts step32
 accepts-board = (4, refl)
 
 readers-board : TwoReaders Board full instances.logoless instances.one
 readers-board = (demand3 Board).readers full instances.logoless (full-contains instances.logoless) instances.one accepts-board
 
 pub logoless-one : Accepted (answers Board instances.logoless instances.one)
-unfolding answers hidden item_numbered list_of entry_at onward moved step-shown walked step_numbered map_record_numbered gpio_record_numbered rest_at eeprom_at eepr_map_at brd_info_at item_at map_record_at gpio_record_at judged rule20 rule21 rule22 rule23 rule24 rule25 rule26 rule27 rule28 rule29 rule30 rule31 rule32 rule33 rule34 misplaced gap_used expected out_of_order prom_sig_at covered check_over bad_map_head bad_board_head bad_prom_sig_head bad_hash bad_hash_of hash_size bad_map bad_map_field bad_map_record repeated_label bad_gpio_record bad_board_type reserved_used bad_inside bad_gpio shape_at shape_of listed_shape end_at round16 next map_at board_at later_at records visit chain first nth tab le16 le32 le64 sixteen_at nonzero is_text is_label_text text_end bad_label listed picked all same crc32 shift shifts step32
+unfolding answers hidden item_numbered list_of entry_at onward moved step-shown walked step_numbered map_record_numbered gpio_record_numbered rest_at eeprom_at eepr_map_at brd_info_at item_at map_record_at gpio_record_at judged rule20 rule21 rule22 rule23 rule24 rule25 rule26 rule27 rule28 rule29 rule30 rule31 rule32 rule33 rule34 misplaced gap_used expected out_of_order prom_sig_at covered check_over bad_map_head bad_board_head bad_prom_sig_head bad_hash bad_hash_of hash_size bad_map bad_map_field bad_map_record repeated_label bad_gpio_record bad_board_type reserved_used bad_inside bad_gpio shape_at shape_of listed_shape end_at round16 next map_at board_at later_at records visit chain first nth tab le16 le32 le64 nonzero is_text is_label_text text_end bad_label listed picked all same crc32 shift shifts step32
 logoless-one = (4, refl)
 
 pub logoless-other : Accepted (answers Board instances.logoless instances.other)
-unfolding answers hidden item_numbered list_of entry_at onward moved step-shown walked step_numbered map_record_numbered gpio_record_numbered rest_at eeprom_at eepr_map_at brd_info_at item_at map_record_at gpio_record_at judged rule20 rule21 rule22 rule23 rule24 rule25 rule26 rule27 rule28 rule29 rule30 rule31 rule32 rule33 rule34 misplaced gap_used expected out_of_order prom_sig_at covered check_over bad_map_head bad_board_head bad_prom_sig_head bad_hash bad_hash_of hash_size bad_map bad_map_field bad_map_record repeated_label bad_gpio_record bad_board_type reserved_used bad_inside bad_gpio shape_at shape_of listed_shape end_at round16 next map_at board_at later_at records visit chain first nth tab le16 le32 le64 sixteen_at nonzero is_text is_label_text text_end bad_label listed picked all same crc32 shift shifts step32
+unfolding answers hidden item_numbered list_of entry_at onward moved step-shown walked step_numbered map_record_numbered gpio_record_numbered rest_at eeprom_at eepr_map_at brd_info_at item_at map_record_at gpio_record_at judged rule20 rule21 rule22 rule23 rule24 rule25 rule26 rule27 rule28 rule29 rule30 rule31 rule32 rule33 rule34 misplaced gap_used expected out_of_order prom_sig_at covered check_over bad_map_head bad_board_head bad_prom_sig_head bad_hash bad_hash_of hash_size bad_map bad_map_field bad_map_record repeated_label bad_gpio_record bad_board_type reserved_used bad_inside bad_gpio shape_at shape_of listed_shape end_at round16 next map_at board_at later_at records visit chain first nth tab le16 le32 le64 nonzero is_text is_label_text text_end bad_label listed picked all same crc32 shift shifts step32
 logoless-other = (4, refl)
 
 -- they differ in Crc32 and inside the structure at E0h
 logos : SameOutside Board instances.logoless instances.one instances.other
-unfolding answers hidden item_numbered list_of entry_at onward moved step-shown walked step_numbered map_record_numbered gpio_record_numbered rest_at eeprom_at eepr_map_at brd_info_at item_at map_record_at gpio_record_at judged rule20 rule21 rule22 rule23 rule24 rule25 rule26 rule27 rule28 rule29 rule30 rule31 rule32 rule33 rule34 misplaced gap_used expected out_of_order prom_sig_at covered check_over bad_map_head bad_board_head bad_prom_sig_head bad_hash bad_hash_of hash_size bad_map bad_map_field bad_map_record repeated_label bad_gpio_record bad_board_type reserved_used bad_inside bad_gpio shape_at shape_of listed_shape end_at round16 next map_at board_at later_at records visit chain first nth tab le16 le32 le64 sixteen_at nonzero is_text is_label_text text_end bad_label listed picked all same crc32 shift shifts step32
+unfolding answers hidden item_numbered list_of entry_at onward moved step-shown walked step_numbered map_record_numbered gpio_record_numbered rest_at eeprom_at eepr_map_at brd_info_at item_at map_record_at gpio_record_at judged rule20 rule21 rule22 rule23 rule24 rule25 rule26 rule27 rule28 rule29 rule30 rule31 rule32 rule33 rule34 misplaced gap_used expected out_of_order prom_sig_at covered check_over bad_map_head bad_board_head bad_prom_sig_head bad_hash bad_hash_of hash_size bad_map bad_map_field bad_map_record repeated_label bad_gpio_record bad_board_type reserved_used bad_inside bad_gpio shape_at shape_of listed_shape end_at round16 next map_at board_at later_at records visit chain first nth tab le16 le32 le64 nonzero is_text is_label_text text_end bad_label listed picked all same crc32 shift shifts step32
 logos =
     record {
       length = refl;
@@ -101,5 +101,5 @@ record Seen : Type 0 where
   refuses : (answers Board full instances.other).judge ≡ refused 32 0xF0
 
 seen : Seen
-unfolding answers hidden item_numbered list_of entry_at onward moved step-shown walked step_numbered map_record_numbered gpio_record_numbered rest_at eeprom_at eepr_map_at brd_info_at item_at map_record_at gpio_record_at judged rule20 rule21 rule22 rule23 rule24 rule25 rule26 rule27 rule28 rule29 rule30 rule31 rule32 rule33 rule34 misplaced gap_used expected out_of_order prom_sig_at covered check_over bad_map_head bad_board_head bad_prom_sig_head bad_hash bad_hash_of hash_size bad_map bad_map_field bad_map_record repeated_label bad_gpio_record bad_board_type reserved_used bad_inside bad_gpio shape_at shape_of listed_shape end_at round16 next map_at board_at later_at records visit chain first nth tab le16 le32 le64 sixteen_at nonzero is_text is_label_text text_end bad_label listed picked all same crc32 shift shifts step32
+unfolding answers hidden item_numbered list_of entry_at onward moved step-shown walked step_numbered map_record_numbered gpio_record_numbered rest_at eeprom_at eepr_map_at brd_info_at item_at map_record_at gpio_record_at judged rule20 rule21 rule22 rule23 rule24 rule25 rule26 rule27 rule28 rule29 rule30 rule31 rule32 rule33 rule34 misplaced gap_used expected out_of_order prom_sig_at covered check_over bad_map_head bad_board_head bad_prom_sig_head bad_hash bad_hash_of hash_size bad_map bad_map_field bad_map_record repeated_label bad_gpio_record bad_board_type reserved_used bad_inside bad_gpio shape_at shape_of listed_shape end_at round16 next map_at board_at later_at records visit chain first nth tab le16 le32 le64 nonzero is_text is_label_text text_end bad_label listed picked all same crc32 shift shifts step32
 seen = record { known = refl; unknown = refl; step = refl; refuses = refl }

@@ -1,5 +1,6 @@
 -- Two readers of one board image: at each place the shorter shows what the longer shows, hidden; the same records of the map; and records of GPIO data where
 -- its list has their kind. A structure of a listed kind and another version the longer does not know either. Assumes nothing.
+use Rattle.std.specs.Prelude.{Some, None, Ok}
 use Prim.Native.Nat.{ℕ}
 use mathlib.Core.Bool.{Bool, true, false, cond, ◌&&◌, ◌||◌}
 use mathlib.Core.List.{List}
@@ -9,15 +10,14 @@ use Rattle.board.specs.Answers.{map_record_if, map_record_numbered, is_gpio, gpi
 use Rattle.board.specs.Items as board
 use Rattle.board.specs.Items.{item_as}
 use Rattle.board.specs.Values.{item_fields, gpio_record_said}
-use Rattle.board.specs.declared.Item.{Item}
+use Rattle.board.specs.AnswerTypes.{Item}
 use Rattle.board_layout.specs.Layout.{signature_at, major_at, shape_at, structures, records}
 use Rattle.board_layout.specs.Shapes.{knows, on_every_list}
 use Rattle.board_layout.specs.declared.Records.TheVariants.{Gpio}
 use Rattle.board_layout.proofs.laws.Shapes.{known-exactly}
 use Rattle.board_rules.specs.Judged.{judged}
 use Rattle.chain.specs.Nth.{nth}
-use Rattle.chain.specs.declared.Found.{Found}
-use Rattle.chain.specs.declared.Found.TheVariants.{Nothing}
+use Rattle.chain.specs.Found.{Found}
 use Rattle.kinds.specs.Kinds.{listed, Contains}
 use Rattle.kinds.specs.declared.Kind.TheVariants.{Signature}
 use Rattle.kinds.specs.declared.Kinds.{Kinds}
@@ -31,8 +31,7 @@ use Rattle.reader.specs.Values as reader
 use Rattle.reader.specs.Values.{board_fields, item_values}
 use Rattle.reader.specs.declared.Format.TheVariants.{Board}
 use Rattle.verdict.specs.Said.{Said, refused}
-use Rattle.verdict.specs.declared.Judged.{Judged}
-use Rattle.verdict.specs.declared.Judged.TheVariants.{Accepted}
+use Rattle.verdict.specs.Answers.{Judged}
 
 -- a structure that is one of the four, or listed and of VerMajor 1, by what the longer list says of it
 mark-hides : (always short long one : Bool) → (short ≡ true → long ≡ true) → (always || (short && one)) ≡ cond (always || short) (always || (long && one)) false
@@ -42,8 +41,8 @@ mark-hides false false long one h = refl
 
 -- structures show no strings
 board-hides : (k : Kinds) (x : Item) → hide_fields k (board_fields (item_fields x)) ≡ board_fields (item_fields x)
-board-hides k (Item.Known x) = refl
-board-hides k Item.NotKnown = refl
+board-hides k (Some x) = refl
+board-hides k None = refl
 
 module _ (longer shorter : Kinds) (contains : Contains longer shorter) (s : List ℕ) where
   -- the shorter knows a structure where its list has the kind and the longer knows it
@@ -65,13 +64,13 @@ module _ (longer shorter : Kinds) (contains : Contains longer shorter) (s : List
         place = p;
         length = (board.item_at longer s p).length;
         fields =
-            (ap (λ (b : Bool). board_fields (item_fields (cond b (item_as s p (shape_at s p)) Item.NotKnown))) (knows-hidden p)
+            (ap (λ (b : Bool). board_fields (item_fields (cond b (item_as s p (shape_at s p)) None))) (knows-hidden p)
             ∙ go (has shorter (Signature (signature_at s p))) (knows longer (shape_at s p))) i;
       }
     where
-      go : (h b : Bool) → board_fields (item_fields (cond (cond h b false) (item_as s p (shape_at s p)) Item.NotKnown))
-          ≡ cond h (hide_fields shorter (board_fields (item_fields (cond b (item_as s p (shape_at s p)) Item.NotKnown)))) reader.not_known
-      go true b = sym (board-hides shorter (cond b (item_as s p (shape_at s p)) Item.NotKnown))
+      go : (h b : Bool) → board_fields (item_fields (cond (cond h b false) (item_as s p (shape_at s p)) None))
+          ≡ cond h (hide_fields shorter (board_fields (item_fields (cond b (item_as s p (shape_at s p)) None)))) reader.not_known
+      go true b = sym (board-hides shorter (cond b (item_as s p (shape_at s p)) None))
       go false b = refl
 
   pub board-entry-hidden : (p : ℕ) → entry_at Board shorter s p ≡ hide_entry Board shorter (entry_at Board longer s p)
@@ -85,7 +84,7 @@ module _ (longer shorter : Kinds) (contains : Contains longer shorter) (s : List
       }
 
   -- ---- where both accept: a record of the map, and one of GPIO data by what the longer shows of its item
-  module _ (c : ℕ) (e : judged longer s ≡ Accepted c) (d : judged shorter s ≡ Accepted c) where
+  module _ (c : ℕ) (e : judged longer s ≡ Ok c) (d : judged shorter s ≡ Ok c) where
     pub map-hidden : (n : ℕ) → map_record_numbered shorter s n ≡ map_record_numbered longer s n
     unfolding map_record_numbered
     map-hidden n = ap (map_record_if s n) d ∙ sym (ap (map_record_if s n) e)
@@ -108,7 +107,7 @@ module _ (longer shorter : Kinds) (contains : Contains longer shorter) (s : List
         said k f = gpio_record_said (gpio_record s (gpio_records_at k s n f))
 
         record_by : ℕ → Bool → Said (List Field)
-        record_by p b = gpio_record_said (gpio_record s (cond b (nth (records Gpio s p) n) Nothing))
+        record_by p b = gpio_record_said (gpio_record s (cond b (nth (records Gpio s p) n) None))
 
         go : (p : ℕ) (a h b : Bool) → record_by p (a && cond h b false) ≡ cond h (record_by p (a && b)) (refused 42 0)
         go p a true b = refl

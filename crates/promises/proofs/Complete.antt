@@ -1,4 +1,5 @@
 -- The answers tell each byte that an answer is about, and no other: both directions, over any format. Assumes nothing.
+use Rattle.std.specs.Prelude.{Ok}
 use Prim.Native.Nat.{ℕ}
 use mathlib.Core.List.{List}
 use mathlib.Core.Logic.{◌⊎◌}
@@ -14,9 +15,8 @@ use Rattle.promises.specs.Complete.{NotShown, NotTold, AgreeBut, SameFurther, Co
 use Rattle.reader.specs.Formats.{judged}
 use Rattle.reader.specs.declared.Format.{Format}
 use Rattle.reader.specs.declared.Format.TheVariants.{Tiny, Board}
-use Rattle.verdict.specs.declared.Judged.TheVariants.{Accepted}
 
-all-told : (f : Format) (k : Kinds) (s t : List ℕ) → Octets s → Octets t → (c d : ℕ) → judged f k s ≡ Accepted c → judged f k t ≡ Accepted d
+all-told : (f : Format) (k : Kinds) (s t : List ℕ) → Octets s → Octets t → (c d : ℕ) → judged f k s ≡ Ok c → judged f k t ≡ Ok d
     → ((i : ℕ) → (answers f k s).item i ≡ (answers f k t).item i) → SameFurther f (answers f k s).further (answers f k t).further
     → AgreeBut f (λ q. NotShown f k s q ⊎ NotTold f k s q) s t
 all-told Tiny = tiny-told

@@ -1,5 +1,6 @@
 -- What a reader answers about a board image tells each byte that an answer is about. Each byte lies in one structure, or between two; and there it is told by the
 -- rows of its table, by those of a record, or it is zero by a rule. Assumes nothing.
+use Rattle.std.specs.Prelude.{Some, Ok}
 use Prim.Native.Nat.{ℕ, ◌+◌, ◌≤◌, ◌<◌}
 use mathlib.Core.Bool.{Bool, true, false, false≢true}
 use mathlib.Core.List.{List}
@@ -30,7 +31,6 @@ use Rattle.board_rules.proofs.laws.Rows.{Placed, structures-placed}
 use Rattle.board_rules.proofs.laws.Walk.{Fits}
 use Rattle.chain.specs.Chain.{ahead}
 use Rattle.chain.specs.Nth.{nth}
-use Rattle.chain.specs.declared.Found.TheVariants.{At}
 use Rattle.chain.proofs.laws.Below.{below}
 use Rattle.chain.proofs.laws.Inside.{In, chain-covers}
 use Rattle.chain.proofs.laws.Nth.{nth-all}
@@ -47,7 +47,6 @@ use Rattle.reader.specs.Formats.{judged}
 use Rattle.reader.specs.Values as reader
 use Rattle.reader.specs.Values.{FieldValues, ItemValues, board_fields}
 use Rattle.reader.specs.declared.Format.TheVariants.{Board}
-use Rattle.verdict.specs.declared.Judged as verdict
 
 -- ---- an item's signature and fields, out of its values
 abbrev signature_of : Kind → ℕ
@@ -64,13 +63,13 @@ fields-back (board.fields l) = refl
 fields-back board.not_known = refl
 
 -- ---- two images
-module _ (k : Kinds) (s t : List ℕ) (good : Octets s) (fine : Octets t) (c d : ℕ) (e : judged Board k s ≡ verdict.Judged.Accepted c) (g : judged Board k t ≡ verdict.Judged.Accepted d) (items : (i : ℕ) → (answers Board k s).item i ≡ (answers Board k t).item i) (further : SameFurther Board (answers Board k s).further (answers Board k t).further) where
+module _ (k : Kinds) (s t : List ℕ) (good : Octets s) (fine : Octets t) (c d : ℕ) (e : judged Board k s ≡ Ok c) (g : judged Board k t ≡ Ok d) (items : (i : ℕ) → (answers Board k s).item i ≡ (answers Board k t).item i) (further : SameFurther Board (answers Board k s).further (answers Board k t).further) where
   -- ---- the same structures, and the same item at each
   record Both (i p : ℕ) : Type 0 where
-    too : nth (structures t) i ≡ At p
+    too : nth (structures t) i ≡ Some p
     item : SameShown k s t p
 
-  both : (i p : ℕ) → nth (structures s) i ≡ At p → Both i p
+  both : (i p : ℕ) → nth (structures s) i ≡ Some p → Both i p
   unfolding item_at
   both i p at =
       let w = both-stand Board k s t c d e g items i p at in
@@ -85,7 +84,7 @@ module _ (k : Kinds) (s t : List ℕ) (good : Octets s) (fine : Octets t) (c d :
       }
 
   -- StructLen is a field of the header
-  header-stands : nth (structures s) 0 ≡ At 0
+  header-stands : nth (structures s) 0 ≡ Some 0
   unfolding nth
   header-stands = ap (λ (l : List ℕ). nth l 0) (structures-are k s c e)
 
@@ -106,8 +105,8 @@ module _ (k : Kinds) (s t : List ℕ) (good : Octets s) (fine : Octets t) (c d :
           ]
 
   -- ---- a byte of structure i, which starts at p
-  module _ (i p : ℕ) (at : nth (structures s) i ≡ At p) (q : ℕ) (h : q < struct_len s) (a : p ≤ q) (b : q < next s p) where
-    too : nth (structures t) i ≡ At p
+  module _ (i p : ℕ) (at : nth (structures s) i ≡ Some p) (q : ℕ) (h : q < struct_len s) (a : p ≤ q) (b : q < next s p) where
+    too : nth (structures t) i ≡ Some p
     too = (both i p at).too
 
     item : SameShown k s t p
@@ -145,7 +144,7 @@ module _ (k : Kinds) (s t : List ℕ) (good : Octets s) (fine : Octets t) (c d :
           ]
 
       -- a record, whose fields are told
-      record-shown : (which : Records) → HasRecords which (shape_at s p) → q < end_at s p → (j r : ℕ) → nth (records which s p) j ≡ At r
+      record-shown : (which : Records) → HasRecords which (shape_at s p) → q < end_at s p → (j r : ℕ) → nth (records which s p) j ≡ Some r
           → r ≤ q → q < r + record_to which → Same s t r (r + record_from which) → Told
       record-shown which has x j r stands y z same =
           elim (below q (r + record_from which)) [
@@ -180,7 +179,7 @@ module _ (k : Kinds) (s t : List ℕ) (good : Octets s) (fine : Octets t) (c d :
               (nth-all (Placed k t) (structures t) i p (structures-placed k t d g) too).map
               (sym (place.shapes k s t good fine c d e g i p at too item on) ∙ is)
 
-          told : (j r : ℕ) → nth (records Map s p) j ≡ At r → record_shown Map s r ≡ record_shown Map t r
+          told : (j r : ℕ) → nth (records Map s p) j ≡ Some r → record_shown Map s r ≡ record_shown Map t r
           told j r stands =
               let z = sym (map-shown k s c e j r (map_at s, (second k s c e, ap (λ (m : ℕ). nth (records Map s m) j) (sym (placed.map is)) ∙ stands))) ∙ further.0 j
               ∙ map-shown k t d g j r (
@@ -199,7 +198,7 @@ module _ (k : Kinds) (s t : List ℕ) (good : Octets s) (fine : Octets t) (c d :
           let shown : record_shown Gpio s w.place ≡ record_shown Gpio t w.place = told w.number w.place w.stands in
           record-shown Gpio is y w.number w.place w.stands w.past w.before (record-told Gpio s t good fine w.place shown)
         where
-          told : (j r : ℕ) → nth (records Gpio s p) j ≡ At r → record_shown Gpio s r ≡ record_shown Gpio t r
+          told : (j r : ℕ) → nth (records Gpio s p) j ≡ Some r → record_shown Gpio s r ≡ record_shown Gpio t r
           told j r stands =
               let z = sym (gpio-shown k s c e i j r (p, (at, on, is, stands))) ∙ further.1 i j
               ∙ gpio-shown k t d g i j r (

@@ -37,7 +37,7 @@ use Rattle.kinds.specs.declared.Kind.TheVariants.{Signature}
 use Rattle.octets.specs.Bytes.{le16, le32, le64, byte, Octets}
 use Rattle.octets.specs.Label.{is_text, is_label_text, text_end, bad_label}
 use Rattle.octets.specs.Rows.{number, bytes, part}
-use Rattle.octets.specs.Runs.{sixteen_at, nonzero}
+use Rattle.octets.specs.Runs.{nonzero}
 use Rattle.promises.proofs.BoardExamples.{accepts-board, logoless-one, logoless-other, images-board}
 use Rattle.promises.proofs.Complete.{complete}
 use Rattle.promises.proofs.Differ.{both, one-of-three, octets-tested}
@@ -74,11 +74,11 @@ abbrev blue : List ℕ
 blue = image 0x110 0x339A9F5D 0x110 (logo 0x30 0 ++ replicate 16 0x42)
 
 accepts-blue : Accepted (answers Board full blue)
-unfolding answers hidden item_numbered list_of entry_at onward moved shown walked step_numbered map_record_numbered gpio_record_numbered rest_at eeprom_at eepr_map_at brd_info_at item_at map_record_at gpio_record_at judged rule20 rule21 rule22 rule23 rule24 rule25 rule26 rule27 rule28 rule29 rule30 rule31 rule32 rule33 rule34 misplaced gap_used expected out_of_order prom_sig_at covered check_over bad_map_head bad_board_head bad_prom_sig_head bad_hash bad_hash_of hash_size bad_map bad_map_field bad_map_record repeated_label bad_gpio_record bad_board_type reserved_used bad_inside bad_gpio shape_at shape_of listed_shape end_at round16 next map_at board_at later_at records visit chain first nth tab le16 le32 le64 sixteen_at nonzero is_text is_label_text text_end bad_label listed picked all same crc32 shift shifts step32
+unfolding answers hidden item_numbered list_of entry_at onward moved shown walked step_numbered map_record_numbered gpio_record_numbered rest_at eeprom_at eepr_map_at brd_info_at item_at map_record_at gpio_record_at judged rule20 rule21 rule22 rule23 rule24 rule25 rule26 rule27 rule28 rule29 rule30 rule31 rule32 rule33 rule34 misplaced gap_used expected out_of_order prom_sig_at covered check_over bad_map_head bad_board_head bad_prom_sig_head bad_hash bad_hash_of hash_size bad_map bad_map_field bad_map_record repeated_label bad_gpio_record bad_board_type reserved_used bad_inside bad_gpio shape_at shape_of listed_shape end_at round16 next map_at board_at later_at records visit chain first nth tab le16 le32 le64 nonzero is_text is_label_text text_end bad_label listed picked all same crc32 shift shifts step32
 accepts-blue = (4, refl)
 
 blue-logo : AgreeBut Board (NotShown full instances.one) instances.one blue
-unfolding answers hidden item_numbered list_of entry_at onward moved shown walked step_numbered map_record_numbered gpio_record_numbered rest_at eeprom_at eepr_map_at brd_info_at item_at map_record_at gpio_record_at judged rule20 rule21 rule22 rule23 rule24 rule25 rule26 rule27 rule28 rule29 rule30 rule31 rule32 rule33 rule34 misplaced gap_used expected out_of_order prom_sig_at covered check_over bad_map_head bad_board_head bad_prom_sig_head bad_hash bad_hash_of hash_size bad_map bad_map_field bad_map_record repeated_label bad_gpio_record bad_board_type reserved_used bad_inside bad_gpio shape_at shape_of listed_shape end_at round16 next map_at board_at later_at records visit chain first nth tab le16 le32 le64 sixteen_at nonzero is_text is_label_text text_end bad_label listed picked all same crc32 shift shifts step32
+unfolding answers hidden item_numbered list_of entry_at onward moved shown walked step_numbered map_record_numbered gpio_record_numbered rest_at eeprom_at eepr_map_at brd_info_at item_at map_record_at gpio_record_at judged rule20 rule21 rule22 rule23 rule24 rule25 rule26 rule27 rule28 rule29 rule30 rule31 rule32 rule33 rule34 misplaced gap_used expected out_of_order prom_sig_at covered check_over bad_map_head bad_board_head bad_prom_sig_head bad_hash bad_hash_of hash_size bad_map bad_map_field bad_map_record repeated_label bad_gpio_record bad_board_type reserved_used bad_inside bad_gpio shape_at shape_of listed_shape end_at round16 next map_at board_at later_at records visit chain first nth tab le16 le32 le64 nonzero is_text is_label_text text_end bad_label listed picked all same crc32 shift shifts step32
 blue-logo =
     record {
       length = refl;
@@ -134,7 +134,7 @@ record Told : Type 0 where
   four : (answers Board full (fpga 4 0xA975C42C)).item 3 ≡ says (fpga_shown 4)
 
 told : Told
-unfolding answers hidden item_numbered list_of entry_at onward moved shown walked step_numbered map_record_numbered gpio_record_numbered rest_at eeprom_at eepr_map_at brd_info_at fpga_nfo_at item_at map_record_at gpio_record_at judged rule20 rule21 rule22 rule23 rule24 rule25 rule26 rule27 rule28 rule29 rule30 rule31 rule32 rule33 rule34 misplaced gap_used expected out_of_order prom_sig_at covered check_over bad_map_head bad_board_head bad_prom_sig_head bad_hash bad_hash_of hash_size bad_map bad_map_field bad_map_record repeated_label bad_gpio_record bad_board_type reserved_used bad_inside bad_fpga bad_gpio shape_at shape_of listed_shape end_at round16 next map_at board_at later_at records visit chain first nth tab le16 le32 le64 sixteen_at nonzero is_text is_label_text text_end bad_label listed picked all same crc32 shift shifts step32
+unfolding answers hidden item_numbered list_of entry_at onward moved shown walked step_numbered map_record_numbered gpio_record_numbered rest_at eeprom_at eepr_map_at brd_info_at fpga_nfo_at item_at map_record_at gpio_record_at judged rule20 rule21 rule22 rule23 rule24 rule25 rule26 rule27 rule28 rule29 rule30 rule31 rule32 rule33 rule34 misplaced gap_used expected out_of_order prom_sig_at covered check_over bad_map_head bad_board_head bad_prom_sig_head bad_hash bad_hash_of hash_size bad_map bad_map_field bad_map_record repeated_label bad_gpio_record bad_board_type reserved_used bad_inside bad_fpga bad_gpio shape_at shape_of listed_shape end_at round16 next map_at board_at later_at records visit chain first nth tab le16 le32 le64 nonzero is_text is_label_text text_end bad_label listed picked all same crc32 shift shifts step32
 told = record { three = refl; four = refl }
 
 -- ---- and the bytes behind the short header are the map's, also where the header's VerMinor is above 0: maps of VerMinor 0 and 1 are shown as such
@@ -165,5 +165,5 @@ map_with minor =
     }
 
 behind-short : ((answers Board full (behind_short 0 0x653861A2)).item 1 ≡ says (map_with 0)) × ((answers Board full (behind_short 1 0x4A4605BB)).item 1 ≡ says (map_with 1))
-unfolding answers hidden item_numbered list_of entry_at onward moved shown walked step_numbered map_record_numbered gpio_record_numbered rest_at eeprom_at eepr_map_at brd_info_at fpga_nfo_at item_at map_record_at gpio_record_at judged rule20 rule21 rule22 rule23 rule24 rule25 rule26 rule27 rule28 rule29 rule30 rule31 rule32 rule33 rule34 misplaced gap_used expected out_of_order prom_sig_at covered check_over bad_map_head bad_board_head bad_prom_sig_head bad_hash bad_hash_of hash_size bad_map bad_map_field bad_map_record repeated_label bad_gpio_record bad_board_type reserved_used bad_inside bad_fpga bad_gpio shape_at shape_of listed_shape end_at round16 next map_at board_at later_at records visit chain first nth tab le16 le32 le64 sixteen_at nonzero is_text is_label_text text_end bad_label listed picked all same crc32 shift shifts step32
+unfolding answers hidden item_numbered list_of entry_at onward moved shown walked step_numbered map_record_numbered gpio_record_numbered rest_at eeprom_at eepr_map_at brd_info_at fpga_nfo_at item_at map_record_at gpio_record_at judged rule20 rule21 rule22 rule23 rule24 rule25 rule26 rule27 rule28 rule29 rule30 rule31 rule32 rule33 rule34 misplaced gap_used expected out_of_order prom_sig_at covered check_over bad_map_head bad_board_head bad_prom_sig_head bad_hash bad_hash_of hash_size bad_map bad_map_field bad_map_record repeated_label bad_gpio_record bad_board_type reserved_used bad_inside bad_fpga bad_gpio shape_at shape_of listed_shape end_at round16 next map_at board_at later_at records visit chain first nth tab le16 le32 le64 nonzero is_text is_label_text text_end bad_label listed picked all same crc32 shift shifts step32
 behind-short = (refl, refl)

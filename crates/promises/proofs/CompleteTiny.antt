@@ -1,5 +1,6 @@
 -- What a reader answers about a tiny image tells each byte that an answer is about: by the laws of the crate tiny, over what is shown at each place.
 -- Assumes nothing.
+use Rattle.std.specs.Prelude.{Ok}
 use Prim.Native.Nat.{ℕ}
 use mathlib.Core.List.{List}
 use mathlib.Core.Logic.{◌⊎◌}
@@ -21,7 +22,6 @@ use Rattle.tiny.specs.NotShown.{InIndex, NotShown}
 use Rattle.tiny.specs.Values.{FieldValues, ItemValues, pool, serial, flags, address, identity, batched, not_known, item_values}
 use Rattle.tiny.proofs.laws.Told.{AllBoth, totals, complete-tiny}
 use Rattle.tiny_layout.specs.Pool as layout
-use Rattle.verdict.specs.declared.Judged.TheVariants.{Accepted}
 
 -- ---- an item's values in the format's own terms, and back
 abbrev tag_of : Kind → ℕ
@@ -46,7 +46,7 @@ fields-back (batched x b) = refl
 fields-back not_known = refl
 
 -- ---- two images
-all-both : (k : Kinds) (s t : List ℕ) (c d : ℕ) → judged Tiny k s ≡ Accepted c → judged Tiny k t ≡ Accepted d
+all-both : (k : Kinds) (s t : List ℕ) (c d : ℕ) → judged Tiny k s ≡ Ok c → judged Tiny k t ≡ Ok d
     → ((i : ℕ) → (answers Tiny k s).item i ≡ (answers Tiny k t).item i) → AllBoth k s t
 all-both k s t c d e g items i p at =
     let w = both-stand Tiny k s t c d e g items i p at in
@@ -57,7 +57,7 @@ all-both k s t c d e g items i p at =
         let v : ItemValues = item_values x (item_at k x (layout.pool k x) p) in
         record { kind = v.kind; place = v.place; length = v.length; fields = fields-back v.fields j }
 
-pub tiny-told : (k : Kinds) (s t : List ℕ) → Octets s → Octets t → (c d : ℕ) → judged Tiny k s ≡ Accepted c → judged Tiny k t ≡ Accepted d
+pub tiny-told : (k : Kinds) (s t : List ℕ) → Octets s → Octets t → (c d : ℕ) → judged Tiny k s ≡ Ok c → judged Tiny k t ≡ Ok d
     → ((i : ℕ) → (answers Tiny k s).item i ≡ (answers Tiny k t).item i) → SameFurther Tiny (answers Tiny k s).further (answers Tiny k t).further
     → AgreeBut Tiny (λ q. NotShown k s q ⊎ InIndex k s q) s t
 unfolding answers

@@ -1,4 +1,5 @@
 -- Demand 1: what a refusal tells, that every call passes it on, and that no lent buffer changes. Assumes nothing.
+use Rattle.std.specs.Prelude.{Ok, Err}
 use Prim.Native.Nat.{ℕ}
 use mathlib.Core.List.{List}
 use mathlib.Core.Logic.{◌↔◌}
@@ -19,17 +20,17 @@ use Rattle.reader.specs.Values.{item_said, step_said, list_said}
 use Rattle.reader.specs.declared.Entry.{Entry}
 use Rattle.reader.specs.declared.Format.{Format}
 use Rattle.reader.specs.declared.Format.TheVariants.{Tiny, Board}
-use Rattle.reader.specs.declared.ListAnswer.{ListAnswer}
+use Rattle.reader.specs.AnswerTypes.{ListAnswer}
 use Rattle.reader.proofs.laws.Walk.{step-refused}
 use Rattle.tiny.specs.Answers.{string_if, string_numbered, name_if, name_of}
 use Rattle.tiny.specs.Values.{string_said, name_said}
 use Rattle.tiny.proofs.laws.Exactly as tiny
-use Rattle.tiny.specs.declared.NameAnswer.{NameAnswer}
+use Rattle.tiny.specs.AnswerTypes.{NameAnswer}
 use Rattle.tiny_rules.proofs.laws.Table as tiny-table
 use Rattle.tiny_writer.proofs.laws.Written as tiny-writer
 use Rattle.verdict.specs.Said.{refused}
 use Rattle.verdict.specs.Verdict.{refusal}
-use Rattle.verdict.specs.declared.Judged.{Judged}
+use Rattle.verdict.specs.Answers.{Judged}
 use Rattle.verdict.specs.Table.{FirstBroken}
 
 -- ---- the judge goes by the table
@@ -68,16 +69,16 @@ unfolding answers list_of
 list-unchanged f k s l n p e = go (list_answer (length l) (judged f k s)) e
   where
     go : (a : ListAnswer) → list_said a ≡ refused n p → list_holds (entries f k s) l a ≡ l
-    go (ListAnswer.Filled c) d = cc
-    go (ListAnswer.Refused r) d = refl
+    go (Ok c) d = cc
+    go (Err r) d = refl
 
 name-unchanged : (k : Kinds) (s b : List ℕ) (n p : ℕ) → ((answers Tiny k s).further.name b).0 ≡ refused n p → ((answers Tiny k s).further.name b).1 ≡ b
 unfolding answers
 name-unchanged k s b n p e = go (name_of k s b).0 refl e
   where
     go : (a : NameAnswer) → (name_of k s b).0 ≡ a → name_said a ≡ refused n p → (name_of k s b).1 ≡ b
-    go (NameAnswer.Length m) c d = cc
-    go (NameAnswer.Refused r) c d = tiny.refused-unchanged k s b r c
+    go (Ok m) c d = cc
+    go (Err r) c d = tiny.refused-unchanged k s b r c
 
 pub demand1 : Demand1
 demand1 =

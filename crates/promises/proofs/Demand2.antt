@@ -1,4 +1,5 @@
 -- Demand 2: acceptance, fields, reading back and rebuilding, each from the laws of its crate. Assumes nothing.
+use Rattle.std.specs.Prelude.{Some, Ok}
 use Prim.Native.Nat.{ℕ}
 use mathlib.Core.List.{List}
 use mathlib.Core.Logic.{◌↔◌}
@@ -9,8 +10,7 @@ use Rattle.board_rules.proofs.laws.Table as board-table
 use Rattle.board_writer.proofs.laws.Rebuilt as board-rebuilt
 use Rattle.board_writer.proofs.laws.Written as board-written
 use Rattle.chain.specs.Nth.{nth}
-use Rattle.chain.specs.declared.Found.{Found}
-use Rattle.chain.specs.declared.Found.TheVariants.{At}
+use Rattle.chain.specs.Found.{Found}
 use Rattle.kinds.specs.Kinds.{full}
 use Rattle.kinds.specs.declared.Kinds.{Kinds}
 use Rattle.promises.proofs.Exactly.{texts-shown}
@@ -32,27 +32,26 @@ use Rattle.tiny_rules.proofs.laws.Table as tiny-table
 use Rattle.tiny_writer.proofs.laws.Rebuilt as tiny-rebuilt
 use Rattle.tiny_writer.proofs.laws.Written as tiny-written
 use Rattle.verdict.specs.Said.{says}
-use Rattle.verdict.specs.declared.Judged.{Judged}
-use Rattle.verdict.specs.declared.Judged.TheVariants.{Accepted}
+use Rattle.verdict.specs.Answers.{Judged}
 use Rattle.verdict.specs.Table.{Unbroken}
 
 -- ---- the judge goes by the table
 accepted-exactly : (f : Format) (k : Kinds) (s : List ℕ) (n : ℕ) → ((answers f k s).judge ≡ says n) ↔ (Unbroken (table f k s) × (length (places f s) ≡ n))
 accepted-exactly f k s n = (λ e. (by f).0 (accepted-by f k s n e), λ u. says-count f k s n ((by f).1 u))
   where
-    by : (f : Format) → (judged f k s ≡ Accepted n) ↔ (Unbroken (table f k s) × (length (places f s) ≡ n))
+    by : (f : Format) → (judged f k s ≡ Ok n) ↔ (Unbroken (table f k s) × (length (places f s) ≡ n))
     by Tiny = tiny-table.accepted-exactly k s n
     by Board = board-table.accepted-exactly k s n
 
 -- ---- the item of a number is what the tables define at its place
-item-shown : (f : Format) (k : Kinds) (s : List ℕ) (n : ℕ) → judged f k s ≡ Accepted n → (i p : ℕ) → nth (places f s) i ≡ At p
+item-shown : (f : Format) (k : Kinds) (s : List ℕ) (n : ℕ) → judged f k s ≡ Ok n → (i p : ℕ) → nth (places f s) i ≡ Some p
     → (answers f k s).item i ≡ says (item_values s (item_at f k s (pool_of f k s) p))
 unfolding answers item_numbered
 item-shown f k s n e i p at =
     ap (λ (j : Judged). item_said s (item_if f k s i j)) e ∙ ap (λ (x : Found). item_said s (numbered f k s x)) at
 
 -- its kind, place and data length are those at its place
-head-shown : (f : Format) (k : Kinds) (s : List ℕ) (n : ℕ) → judged f k s ≡ Accepted n → (i p : ℕ) → nth (places f s) i ≡ At p → (x : ItemValues)
+head-shown : (f : Format) (k : Kinds) (s : List ℕ) (n : ℕ) → judged f k s ≡ Ok n → (i p : ℕ) → nth (places f s) i ≡ Some p → (x : ItemValues)
     → (answers f k s).item i ≡ says x → (x.kind ≡ as_kind f (kind_at f s p)) × (x.place ≡ p) × (x.length ≡ length_at f s p)
 unfolding tiny.item_at board.item_at
 head-shown f k s n e i p at x said =

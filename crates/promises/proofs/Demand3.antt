@@ -1,4 +1,5 @@
 -- Demand 3: each half goes from a reader's answers to what it sees in the image, with the verdict taken out, and there from place to place. Assumes nothing.
+use Rattle.std.specs.Prelude.{Ok}
 use Prim.Native.Nat.{ℕ, ◌≤◌}
 use mathlib.Core.List.{List, ◌++◌}
 use mathlib.Core.Path.{◌≡◌, refl, sym, ap, subst, ◌∙◌}
@@ -28,13 +29,12 @@ use Rattle.reader.proofs.laws.Formats.{accepted-count}
 use Rattle.reader.proofs.laws.Walk.{walk-shows}
 use Rattle.tiny_rules.proofs.laws.Shorter as tiny-rules
 use Rattle.verdict.specs.Said.{Said, says}
-use Rattle.verdict.specs.declared.Judged as verdict
 
 -- ---- two readers
 -- what the longer accepts, the shorter accepts, with the same count
 shorter-accepts :
     (f : Format) (longer shorter : Kinds) → Contains longer shorter → (s : List ℕ) (n : ℕ)
-    → judged f longer s ≡ verdict.Judged.Accepted n → judged f shorter s ≡ verdict.Judged.Accepted n
+    → judged f longer s ≡ Ok n → judged f shorter s ≡ Ok n
 shorter-accepts Tiny = tiny-rules.shorter-accepts
 shorter-accepts Board = board-rules.shorter-accepts
 
@@ -49,7 +49,7 @@ module _ (longer shorter : Kinds) (contains : Contains longer shorter) (s : List
   entry-hidden Board = board-entry-hidden longer shorter contains s
 
   -- the calls of one format
-  further-hidden : (f : Format) (n : ℕ) → judged f longer s ≡ verdict.Judged.Accepted n → judged f shorter s ≡ verdict.Judged.Accepted n
+  further-hidden : (f : Format) (n : ℕ) → judged f longer s ≡ Ok n → judged f shorter s ≡ Ok n
       → further_answers f shorter s ≡ hide_further f shorter (answers f longer s).item (further_answers f longer s)
   further-hidden Tiny n e d = λ x. record {
     string = λ i. string-hidden longer shorter contains s n e d i x;
@@ -62,8 +62,8 @@ module _ (longer shorter : Kinds) (contains : Contains longer shorter) (s : List
         ∙ ap (λ (a : Said ItemValues). hide_record shorter a ((further_answers Board longer s).gpio_record i m)) (sym (item-given Board longer s n e i))) x;
   }
 
-  module _ (f : Format) (n : ℕ) (e : judged f longer s ≡ verdict.Judged.Accepted n) where
-    d : judged f shorter s ≡ verdict.Judged.Accepted n
+  module _ (f : Format) (n : ℕ) (e : judged f longer s ≡ Ok n) where
+    d : judged f shorter s ≡ Ok n
     d = shorter-accepts f longer shorter contains s n e
 
     readers-alike : answers f shorter s ≡ hidden f shorter (answers f longer s)
@@ -88,8 +88,8 @@ module _ (longer shorter : Kinds) (contains : Contains longer shorter) (s : List
     -- both directions for strings and names
     strings-exactly : (g : Format) → f ≡ g → StringsOf g longer shorter s
     strings-exactly Tiny is =
-        let longer-accepts = subst (λ (x : Format). judged x longer s ≡ verdict.Judged.Accepted n) is e in
-        let shorter-accepts = subst (λ (x : Format). judged x shorter s ≡ verdict.Judged.Accepted n) is d in
+        let longer-accepts = subst (λ (x : Format). judged x longer s ≡ Ok n) is e in
+        let shorter-accepts = subst (λ (x : Format). judged x shorter s ≡ Ok n) is d in
         record {
           undecoded = undecoded-exactly shorter s n shorter-accepts;
           unlooked = unlooked-exactly shorter s n shorter-accepts;
@@ -108,7 +108,7 @@ module _ (longer shorter : Kinds) (contains : Contains longer shorter) (s : List
 
 -- ---- two images
 -- that agree on every byte that is shown
-pub images-alike : (f : Format) (k : Kinds) (s t : List ℕ) (c d : ℕ) → judged f k s ≡ verdict.Judged.Accepted c → judged f k t ≡ verdict.Judged.Accepted d
+pub images-alike : (f : Format) (k : Kinds) (s t : List ℕ) (c d : ℕ) → judged f k s ≡ Ok c → judged f k t ≡ Ok d
     → AgreeBut f (NotShown f k s) s t → answers f k s ≡ answers f k t
 unfolding answers
 images-alike f k s t c d e g same =
@@ -123,7 +123,7 @@ images-alike f k s t c d e g same =
     both.further
 
 -- ---- one reader
-same-items : (f : Format) (k : Kinds) (s : List ℕ) (n : ℕ) → judged f k s ≡ verdict.Judged.Accepted n → SameItems (answers f k s) n
+same-items : (f : Format) (k : Kinds) (s : List ℕ) (n : ℕ) → judged f k s ≡ Ok n → SameItems (answers f k s) n
 same-items f k s n e =
     let v = view f k s in
     let count : length (places f s) ≡ n = accepted-count f k s n e in

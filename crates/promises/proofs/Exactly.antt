@@ -1,6 +1,7 @@
 -- Both directions of each "exactly when": an item is shown as not known exactly where the list lacks its kind and version, and marked so in the list; a string is
 -- undecodable exactly where the list lacks the pool; there is no name exactly where the longer finds none or the list lacks the serial's kind or the pool.
 -- Assumes nothing.
+use Rattle.std.specs.Prelude.{Some, None, Ok}
 use Prim.Native.Nat.{ℕ}
 use mathlib.Core.Bool.{Bool, true, false, cond, ◌&&◌, false≢true}
 use mathlib.Core.List.{List}
@@ -10,15 +11,13 @@ use native.Mathlib.Omega.{arith}
 use lib.ListN.{length}
 use Rattle.board.specs.Items as board
 use Rattle.board.specs.Items.{item_as}
-use Rattle.board.specs.declared.Item as board-item
 use Rattle.board.specs.Values.{item_fields}
 use Rattle.board.proofs.laws.Rows.{structure-rows}
 use Rattle.board_layout.specs.Layout.{signature_at, major_at, shape_at}
 use Rattle.board_layout.specs.Shapes.{knows}
 use Rattle.board_layout.proofs.laws.Shapes.{known-exactly}
 use Rattle.chain.specs.Nth.{nth}
-use Rattle.chain.specs.declared.Found.{Found}
-use Rattle.chain.specs.declared.Found.TheVariants.{At, Nothing}
+use Rattle.chain.specs.Found.{Found}
 use Rattle.chain.proofs.laws.Below.{below}
 use Rattle.kinds.specs.Kinds.{listed, Contains}
 use Rattle.kinds.specs.declared.Kind.TheVariants.{Tag}
@@ -52,7 +51,6 @@ use Rattle.tiny_layout.specs.Pool.{pool}
 use Rattle.tiny_layout.specs.Strings.{texts}
 use Rattle.tiny_layout.specs.Tags.{shape_of}
 use Rattle.verdict.specs.Said.{Said, says}
-use Rattle.verdict.specs.declared.Judged.TheVariants.{Accepted}
 
 -- ---- at a place: fields are shown exactly of a known item
 -- whether fields are those of a known item
@@ -74,7 +72,7 @@ fields-known Tiny k s p = go (listed k (Tag (byte s p))) refl
     go false off = refl
 fields-known Board k s p = go (knows k (shape_at s p)) refl
   where
-    go : (b : Bool) → knows k (shape_at s p) ≡ b → is_known (board_fields (item_fields (cond b (item_as s p (shape_at s p)) board-item.Item.NotKnown))) ≡ b
+    go : (b : Bool) → knows k (shape_at s p) ≡ b → is_known (board_fields (item_fields (cond b (item_as s p (shape_at s p)) None))) ≡ b
     go true on = ap (λ x. is_known (board_fields x)) (structure-rows k s p (shape_at s p) on)
     go false off = refl
 
@@ -101,16 +99,16 @@ not-known (reader.tiny-fields x) = (λ e. ap is_known e, λ e. absurd (false≢t
 not-known (reader.board-fields x) = (λ e. ap is_known e, λ e. absurd (false≢true (sym e)))
 not-known reader.not_known = (λ e. refl, λ e. refl)
 
-module _ (f : Format) (k : Kinds) (s : List ℕ) (c : ℕ) (e : judged f k s ≡ Accepted c) where
+module _ (f : Format) (k : Kinds) (s : List ℕ) (c : ℕ) (e : judged f k s ≡ Ok c) where
   -- what holds of the item at each place holds of an item that is shown
   pub shown-at :
-      (P : ItemValues → Type 0) (i : ℕ) → ((p : ℕ) → nth (places f s) i ≡ At p → P ((view f k s).item p))
+      (P : ItemValues → Type 0) (i : ℕ) → ((p : ℕ) → nth (places f s) i ≡ Some p → P ((view f k s).item p))
       → (x : ItemValues) → (answers f k s).item i ≡ says x → P x
   shown-at P i h x said = go (nth (places f s) i) refl (sym (item-given f k s c e i) ∙ said)
     where
       go : (a : Found) → nth (places f s) i ≡ a → item_from (view f k s) a ≡ says x → P x
-      go (At p) at t = let z : (view f k s).item p ≡ x = cc in subst P z (h p at)
-      go Nothing at t = let z : ◌≡◌ {A = ℕ} 0 1 = cc in absurd (omega arith)
+      go (Some p) at t = let z : (view f k s).item p ≡ x = cc in subst P z (h p at)
+      go None at t = let z : ◌≡◌ {A = ℕ} 0 1 = cc in absurd (omega arith)
 
   -- "not known exactly when its list lacks that kind and version"
   pub unknown-exactly : (i : ℕ) (x : ItemValues) → (answers f k s).item i ≡ says x → (x.fields ≡ reader.not_known) ↔ Lacks f k s x.place
@@ -125,7 +123,7 @@ module _ (f : Format) (k : Kinds) (s : List ℕ) (c : ℕ) (e : judged f k s ≡
           (λ h. sym mark ∙ both.0 h, λ h. both.1 (mark ∙ h))
 
 -- ---- strings
-module _ (k : Kinds) (s : List ℕ) (c : ℕ) (e : judged Tiny k s ≡ Accepted c) where
+module _ (k : Kinds) (s : List ℕ) (c : ℕ) (e : judged Tiny k s ≡ Ok c) where
   -- what holds of each reference of the fields of a tiny item holds of the item as shown
   each-shown : (P : ℕ → tiny-values.ReferenceValue → Type 0) (x : tiny-values.FieldValues) → EachIndexed P x → EachString P (tiny_fields x)
   each-shown P (tiny-values.pool n p l) h = h
@@ -140,7 +138,7 @@ module _ (k : Kinds) (s : List ℕ) (c : ℕ) (e : judged Tiny k s ≡ Accepted 
   abbrev item : ℕ → tiny-values.ItemValues
   item p = tiny-values.item_values s (tiny.item_at k s (pool k s) p)
 
-  said : (i p : ℕ) → nth (places Tiny s) i ≡ At p → tiny-values.item_said s (tiny-answers.item_numbered k s i) ≡ says (item p)
+  said : (i p : ℕ) → nth (places Tiny s) i ≡ Some p → tiny-values.item_said s (tiny-answers.item_numbered k s i) ≡ says (item p)
   unfolding tiny-answers.item_numbered
   said i p at = ap (λ j. tiny-values.item_said s (tiny-answers.item_if k s i j)) e ∙ ap (λ a. tiny-values.item_said s (tiny-answers.numbered k s a)) at
 
@@ -159,7 +157,7 @@ module _ (k : Kinds) (s : List ℕ) (c : ℕ) (e : judged Tiny k s ≡ Accepted 
   pub undecoded-exactly : (i : ℕ) (x : ItemValues) → (answers Tiny k s).item i ≡ says x → EachString (λ j. Exact) x.fields
   undecoded-exactly i = shown-at Tiny k s c e (λ x. EachString (λ j. Exact) x.fields) i (λ p at. each-shown (λ j. Exact) (item p).fields (go p at (has_pool k) refl))
     where
-      go : (p : ℕ) → nth (places Tiny s) i ≡ At p → (b : Bool) → has_pool k ≡ b → EachIndexed (λ j. Exact) (item p).fields
+      go : (p : ℕ) → nth (places Tiny s) i ≡ Some p → (b : Bool) → has_pool k ≡ b → EachIndexed (λ j. Exact) (item p).fields
       go p at true on =
           each-map (λ j r. r ≡ tiny-values.undecodable → ⊥) (λ j. Exact) (λ j r never. (λ h. absurd (never h), λ off. absurd (false≢true (sym off ∙ on))))
           (item p).fields (item-decoded k s c e on i (item p) (said i p at))
@@ -183,7 +181,7 @@ module _ (k : Kinds) (s : List ℕ) (c : ℕ) (e : judged Tiny k s ≡ Accepted 
       to false off said = off
 
 -- ---- the name, of two readers
-module _ (longer shorter : Kinds) (contains : Contains longer shorter) (s : List ℕ) (c : ℕ) (e : judged Tiny longer s ≡ Accepted c) (d : judged Tiny shorter s ≡ Accepted c) where
+module _ (longer shorter : Kinds) (contains : Contains longer shorter) (s : List ℕ) (c : ℕ) (e : judged Tiny longer s ≡ Ok c) (d : judged Tiny shorter s ≡ Ok c) where
   pub nameless-exactly : (b : List ℕ) → NoName shorter s b ↔ (NoName longer s b ⊎ ((has_serial shorter ≡ false) ⊎ (has_pool shorter ≡ false)))
   unfolding answers
   nameless-exactly b = go (has_serial shorter) refl (has_pool shorter) refl (ap (λ (a : Said ℕ × List ℕ). a.0) (name-hidden longer shorter contains s c e d b))

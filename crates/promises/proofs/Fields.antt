@@ -1,5 +1,6 @@
 -- What is shown is what the papers' tables define: the fields of an item under their labels, the pool's string count, strings and the name, and records by number,
 -- each from the laws of its crate. Assumes nothing.
+use Rattle.std.specs.Prelude.{Some, None, Ok, Err}
 use Prim.Native.Nat.{ℕ, ◌+◌}
 use mathlib.Core.Bool.{Bool, true, false, cond, ◌&&◌}
 use mathlib.Core.List.{List, []}
@@ -20,8 +21,7 @@ use Rattle.board_rules.proofs.laws.Accepted.{structures-are}
 use Rattle.chain.specs.Finds.{Nowhere}
 use Rattle.chain.specs.Keep.{only}
 use Rattle.chain.specs.Nth.{nth}
-use Rattle.chain.specs.declared.Found.{Found}
-use Rattle.chain.specs.declared.Found.TheVariants.{At, Nothing}
+use Rattle.chain.specs.Found.{Found}
 use Rattle.kinds.specs.Kinds.{listed}
 use Rattle.kinds.specs.declared.Kind.{Kind}
 use Rattle.kinds.specs.declared.Kind.TheVariants.{Tag, Signature}
@@ -46,7 +46,7 @@ use Rattle.tiny.specs.Shown as tiny-shown
 use Rattle.tiny.specs.Values as tiny-values
 use Rattle.tiny.specs.Values.{FieldValues, field_values, name_said}
 use Rattle.tiny.specs.declared.Item.{Item}
-use Rattle.tiny.specs.declared.NameAnswer.{NameAnswer}
+use Rattle.tiny.specs.AnswerTypes.{NameAnswer}
 use Rattle.tiny.proofs.laws.Exactly.{no-name-exactly}
 use Rattle.tiny.proofs.laws.Major as tiny-major
 use Rattle.tiny.proofs.laws.Resolved.{string-text, string-beyond, name-is-text, name-too-long}
@@ -62,8 +62,7 @@ use Rattle.tiny_rules.specs.Broken.{Broken11, major_out_of_range}
 use Rattle.tiny_rules.specs.Rules.{is_major}
 use Rattle.tiny_rules.proofs.laws.Table.{accepted-exactly}
 use Rattle.verdict.specs.Said.{Said, says, refused}
-use Rattle.verdict.specs.declared.Judged.{Judged}
-use Rattle.verdict.specs.declared.Judged.TheVariants.{Accepted}
+use Rattle.verdict.specs.Answers.{Judged}
 
 -- ---- the rows of an item
 -- the fields of a tiny item under their labels, in the values of both formats
@@ -91,7 +90,7 @@ rows-at Board k s p = go (knows k (shape_at s p)) refl
     go true on = ap (λ x. labelled (board_fields x)) (board-rows.known-rows k s p on)
     go false off = ap (λ x. labelled (board_fields x)) (board-rows.unknown-rows k s p off)
 
-pub fields-shown : (f : Format) (k : Kinds) (s : List ℕ) (n : ℕ) → judged f k s ≡ Accepted n → (i : ℕ) (x : ItemValues) → (answers f k s).item i ≡ says x
+pub fields-shown : (f : Format) (k : Kinds) (s : List ℕ) (n : ℕ) → judged f k s ≡ Ok n → (i : ℕ) (x : ItemValues) → (answers f k s).item i ≡ says x
     → labelled x.fields ≡ known_rows f k s x.place
 fields-shown f k s n e i = shown-at f k s n e (λ x. labelled x.fields ≡ known_rows f k s x.place) i (λ p at. rows-at f k s p ∙ sym (ap (known_rows f k s) (item-place f k s p)))
 
@@ -100,7 +99,7 @@ abbrev tag_in : Kind → ℕ
 tag_in (Tag tag) = tag
 tag_in (Signature g) = g
 
-module _ (k : Kinds) (s : List ℕ) (n : ℕ) (e : judged Tiny k s ≡ Accepted n) where
+module _ (k : Kinds) (s : List ℕ) (n : ℕ) (e : judged Tiny k s ≡ Ok n) where
   pub pool-count : has_pool k ≡ true → (i : ℕ) (x : ItemValues) → (answers Tiny k s).item i ≡ says x → x.kind ≡ Tag 0x01
       → x.fields ≡ reader.tiny-fields (tiny-values.pool (length (texts s (pool k s))) (data_at s x.place) x.length)
   unfolding tiny.item_at pool_shown shape_of next
@@ -115,7 +114,7 @@ module _ (k : Kinds) (s : List ℕ) (n : ℕ) (e : judged Tiny k s ≡ Accepted 
 
   -- ---- the major of an identity
   -- rule 11 keeps it in range
-  major-kept : (i p : ℕ) → nth (items s) i ≡ At p → is_known k s p ≡ true → (shape_of (byte s p) ≡ tiny-shape.Shape.Identity) ⊎ (shape_of (byte s p) ≡ tiny-shape.Shape.Batched)
+  major-kept : (i p : ℕ) → nth (items s) i ≡ Some p → is_known k s p ≡ true → (shape_of (byte s p) ≡ tiny-shape.Shape.Identity) ⊎ (shape_of (byte s p) ≡ tiny-shape.Shape.Batched)
       → is_major (byte s (data_at s p + 2)) ≡ true
   major-kept i p at on is = go (is_major (byte s (data_at s p + 2))) refl
     where
@@ -133,7 +132,7 @@ module _ (k : Kinds) (s : List ℕ) (n : ℕ) (e : judged Tiny k s ≡ Accepted 
       shown-at Tiny k s n e (λ x. EachIdentity (λ v. MajorShown v.major v.letters) x.fields) i
       (λ p at. go p at (is_known k s p) refl (shape_of (byte s p)) refl)
     where
-      go : (p : ℕ) → nth (items s) i ≡ At p → (b : Bool) → is_known k s p ≡ b → (a : tiny-shape.Shape) → shape_of (byte s p) ≡ a
+      go : (p : ℕ) → nth (items s) i ≡ Some p → (b : Bool) → is_known k s p ≡ b → (a : tiny-shape.Shape) → shape_of (byte s p) ≡ a
           → EachIdentity (λ v. MajorShown v.major v.letters) (tiny_fields (field_values s (cond b (fields_at s (pool k s) a p) Item.NotKnown)))
       go p at false off a d = tt
       go p at true on tiny-shape.Shape.Pool d = tt
@@ -158,22 +157,22 @@ module _ (k : Kinds) (s : List ℕ) (n : ℕ) (e : judged Tiny k s ≡ Accepted 
       said : NameAnswer × List ℕ → Said ℕ × List ℕ
       said a = (name_said a.0, a.1)
 
-  pub no-name : (b : List ℕ) → (((answers Tiny k s).further.name b).0 ≡ refused 44 0) ↔ ((only (serials k s) ≡ Nothing) ⊎ (has_pool k ≡ false))
+  pub no-name : (b : List ℕ) → (((answers Tiny k s).further.name b).0 ≡ refused 44 0) ↔ ((only (serials k s) ≡ None) ⊎ (has_pool k ≡ false))
   unfolding answers
   no-name b =
       let both = no-name-exactly k s n e b in (λ h. both.0 (back (name_of k s b).0 h), λ h. ap name_said (both.1 h))
     where
-      back : (a : NameAnswer) → name_said a ≡ refused 44 0 → a ≡ NameAnswer.Refused (refused_with 44)
-      back (NameAnswer.Length m) h = cc
-      back (NameAnswer.Refused r) h =
+      back : (a : NameAnswer) → name_said a ≡ refused 44 0 → a ≡ Err (refused_with 44)
+      back (Ok m) h = cc
+      back (Err r) h =
           let number : r.number ≡ 44 = cc in
           let place : r.place ≡ 0 = cc in
-          λ i. NameAnswer.Refused (record { number = number i; place = place i })
+          λ i. Err (record { number = number i; place = place i })
 
 -- ---- records by number
-module _ (k : Kinds) (s : List ℕ) (n : ℕ) (e : judged Board k s ≡ Accepted n) where
+module _ (k : Kinds) (s : List ℕ) (n : ℕ) (e : judged Board k s ≡ Ok n) where
   -- the second structure is the map
-  pub second : nth (structures s) 1 ≡ At (map_at s)
+  pub second : nth (structures s) 1 ≡ Some (map_at s)
   unfolding nth
   second = ap (λ (l : List ℕ). nth l 1) (structures-are k s n e)
 
@@ -183,7 +182,7 @@ module _ (k : Kinds) (s : List ℕ) (n : ℕ) (e : judged Board k s ≡ Accepted
 
   pub map-shown : (j r : ℕ) → MapRecordAt s j r → (answers Board k s).further.map_record j ≡ says (record_shown Map s r)
   map-shown j r w =
-      let z : w.0 ≡ map_at s = let x : At w.0 ≡ At (map_at s) = sym w.1.0 ∙ second in cc in
+      let z : w.0 ≡ map_at s = let x : Some w.0 ≡ Some (map_at s) = sym w.1.0 ∙ second in cc in
       map-by j ∙ ap (λ (f : Found). map_record_said (map_record s f)) (ap (λ (m : ℕ). nth (records Map s m) j) (sym z) ∙ w.1.1)
       ∙ ap says (board-rows.map-record-rows s r)
 
@@ -191,12 +190,12 @@ module _ (k : Kinds) (s : List ℕ) (n : ℕ) (e : judged Board k s ≡ Accepted
   map-none j none = map-by j ∙ go (nth (records Map s (map_at s)) j) refl
     where
       go : (f : Found) → nth (records Map s (map_at s)) j ≡ f → map_record_said (map_record s f) ≡ refused 42 0
-      go (At r) d = absurd (none r (map_at s, (second, d)))
-      go Nothing d = refl
+      go (Some r) d = absurd (none r (map_at s, (second, d)))
+      go None d = refl
 
   -- GPIO data: by what the item is
   abbrev record_by : ℕ → ℕ → Bool → Found
-  record_by p j b = cond b (nth (records Gpio s p) j) Nothing
+  record_by p j b = cond b (nth (records Gpio s p) j) None
 
   gpio-by : (i j : ℕ) → (answers Board k s).further.gpio_record i j ≡ gpio_record_said (gpio_record s (gpio_records_at k s j (nth (structures s) i)))
   unfolding answers gpio_record_numbered
@@ -214,20 +213,20 @@ module _ (k : Kinds) (s : List ℕ) (n : ℕ) (e : judged Board k s ≡ Accepted
   gpio-none : (i j : ℕ) → ((r : ℕ) → GpioRecordAt k s i j r → ⊥) → (answers Board k s).further.gpio_record i j ≡ refused 42 0
   gpio-none i j none = gpio-by i j ∙ go (nth (structures s) i) refl
     where
-      found : (p : ℕ) → nth (structures s) i ≡ At p → is_gpio (shape_at s p) ≡ true → knows k (shape_at s p) ≡ true → (f : Found) → nth (records Gpio s p) j ≡ f
+      found : (p : ℕ) → nth (structures s) i ≡ Some p → is_gpio (shape_at s p) ≡ true → knows k (shape_at s p) ≡ true → (f : Found) → nth (records Gpio s p) j ≡ f
           → gpio_record_said (gpio_record s f) ≡ refused 42 0
-      found p at a b (At r) d = absurd (none r (p, (at, b, gpio-shape (shape_at s p) a, d)))
-      found p at a b Nothing d = refl
+      found p at a b (Some r) d = absurd (none r (p, (at, b, gpio-shape (shape_at s p) a, d)))
+      found p at a b None d = refl
 
-      by : (p : ℕ) → nth (structures s) i ≡ At p → (a b : Bool) → is_gpio (shape_at s p) ≡ a → knows k (shape_at s p) ≡ b
+      by : (p : ℕ) → nth (structures s) i ≡ Some p → (a b : Bool) → is_gpio (shape_at s p) ≡ a → knows k (shape_at s p) ≡ b
           → gpio_record_said (gpio_record s (record_by p j (a && b))) ≡ refused 42 0
       by p at true true a b = found p at a b (nth (records Gpio s p) j) refl
       by p at true false a b = refl
       by p at false b a c = refl
 
       go : (f : Found) → nth (structures s) i ≡ f → gpio_record_said (gpio_record s (gpio_records_at k s j f)) ≡ refused 42 0
-      go (At p) at = by p at (is_gpio (shape_at s p)) (knows k (shape_at s p)) refl refl
-      go Nothing at = refl
+      go (Some p) at = by p at (is_gpio (shape_at s p)) (knows k (shape_at s p)) refl refl
+      go None at = refl
 
   pub records-shown : Records k s (answers Board k s).further
   records-shown = record { map = map-shown; no_map = map-none; gpio = gpio-shown; no_gpio = gpio-none }

@@ -1,4 +1,5 @@
 -- What a reader answers about an image that it accepts, with the verdict taken out: the four calls of every format are those of its view. Assumes nothing.
+use Rattle.std.specs.Prelude.{Some, None, Ok, Err}
 use Prim.Native.Nat.{ℕ}
 use mathlib.Core.Bool.{Bool, true, false, cond}
 use mathlib.Core.List.{List}
@@ -6,8 +7,7 @@ use mathlib.Core.Path.{◌≡◌, refl, sym, ap, ◌∙◌}
 use lib.Dec.{leb}
 use lib.ListN.{length, length-map}
 use Rattle.chain.specs.Nth.{nth}
-use Rattle.chain.specs.declared.Found.{Found}
-use Rattle.chain.specs.declared.Found.TheVariants.{At, Nothing}
+use Rattle.chain.specs.Found.{Found}
 use Rattle.kinds.specs.declared.Kinds.{Kinds}
 use Rattle.promises.proofs.View.{View, item_from, step_from, fill_if, list_from}
 use Rattle.promises.specs.Answers.{Answers, answers}
@@ -18,12 +18,11 @@ use Rattle.reader.specs.Items.{pool_of, item_at}
 use Rattle.reader.specs.Values.{item_values, item_said, step_said, list_said}
 use Rattle.reader.specs.declared.Entry.{Entry}
 use Rattle.reader.specs.declared.Format.{Format}
-use Rattle.reader.specs.declared.ListAnswer.{ListAnswer}
+use Rattle.reader.specs.AnswerTypes.{ListAnswer}
 use Rattle.reader.proofs.laws.Formats.{accepted-count}
 use Rattle.reader.proofs.laws.Walk.{step_found, step-accepted}
 use Rattle.verdict.specs.Said.{says, judged_said}
-use Rattle.verdict.specs.declared.Judged.{Judged}
-use Rattle.verdict.specs.declared.Judged.TheVariants.{Accepted}
+use Rattle.verdict.specs.Answers.{Judged}
 
 -- two readers' answers are equal when each call answers the same, whatever it is asked
 pub answers-equal :
@@ -35,7 +34,7 @@ answers-equal f a b j i l w x = λ t. record { judge = j t; item = λ n. i n t; 
 abbrev pub view : Format → Kinds → List ℕ → View
 view f k s = record { places = places f s; item = λ p. item_values s (item_at f k s (pool_of f k s) p); entry = entry_at f k s }
 
-module _ (f : Format) (k : Kinds) (s : List ℕ) (n : ℕ) (e : judged f k s ≡ Accepted n) where
+module _ (f : Format) (k : Kinds) (s : List ℕ) (n : ℕ) (e : judged f k s ≡ Ok n) where
   pub judge-given : (answers f k s).judge ≡ says (length (places f s))
   unfolding answers
   judge-given = ap judged_said e ∙ ap says (sym (accepted-count f k s n e))
@@ -45,16 +44,16 @@ module _ (f : Format) (k : Kinds) (s : List ℕ) (n : ℕ) (e : judged f k s ≡
   item-given i = ap (λ (j : Judged). item_said s (item_if f k s i j)) e ∙ go (nth (places f s) i)
     where
       go : (x : Found) → item_said s (numbered f k s x) ≡ item_from (view f k s) x
-      go (At p) = refl
-      go Nothing = refl
+      go (Some p) = refl
+      go None = refl
 
   pub walk-given : (i : ℕ) → (answers f k s).walk i ≡ step_from (view f k s) (nth (places f s) i)
   unfolding answers
   walk-given i = ap (step_said s) (step-accepted f k s n e i) ∙ go (nth (places f s) i)
     where
       go : (x : Found) → step_said s (step_found f k s x) ≡ step_from (view f k s) x
-      go (At p) = refl
-      go Nothing = refl
+      go (Some p) = refl
+      go None = refl
 
   pub list-given : (l : List Entry) → (answers f k s).list l ≡ list_from (view f k s) l
   unfolding answers list_of
@@ -63,7 +62,7 @@ module _ (f : Format) (k : Kinds) (s : List ℕ) (n : ℕ) (e : judged f k s ≡
       ∙ ap (λ (m : ℕ). fill_if (leb m (length l)) m (entries f k s) l) (sym (accepted-count f k s n e) ∙ sym (length-map (places f s) (entry_at f k s)))
     where
       answered : Bool → ListAnswer
-      answered b = cond b (ListAnswer.Filled n) (ListAnswer.Refused (refused_with 43))
+      answered b = cond b (Ok n) (Err (refused_with 43))
 
       go : (b : Bool) → (list_said (answered b), list_holds (entries f k s) l (answered b)) ≡ fill_if b n (entries f k s) l
       go true = refl

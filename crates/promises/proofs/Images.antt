@@ -1,5 +1,6 @@
 -- Two accepted images that agree on every byte that is shown: one reader sees the same in both, at each place, and answers the calls of the format alike.
 -- Assumes nothing.
+use Rattle.std.specs.Prelude.{Ok}
 use Prim.Native.Nat.{ℕ, ◌-◌}
 use mathlib.Core.List.{List, []}
 use mathlib.Core.Logic.{◌⊎◌, inl, inr}
@@ -32,10 +33,9 @@ use Rattle.reader.specs.declared.Item.{Item}
 use Rattle.tiny.specs.NotShown as tiny-shows
 use Rattle.tiny.specs.Values as tiny-values
 use Rattle.tiny.specs.Values.{name_said}
-use Rattle.tiny.specs.declared.NameAnswer.{NameAnswer}
+use Rattle.tiny.specs.AnswerTypes.{NameAnswer}
 use Rattle.tiny.proofs.laws.Alike as tiny
 use Rattle.tiny_layout.specs.Layout.{items}
-use Rattle.verdict.specs.declared.Judged.TheVariants.{Accepted}
 
 -- ---- demand 3's premise: images that agree outside the data of unknown items and the check fields agree on what is shown
 pub outside-shown : (f : Format) (k : Kinds) (s t : List ℕ) → SameOutside f k s t → AgreeBut f (NotShown f k s) s t
@@ -71,7 +71,7 @@ pub record SeenAlike (f : Format) (k : Kinds) (s t : List ℕ) : Type 0 where
   pub entries : All (λ p. (view f k s).entry p ≡ (view f k t).entry p) (view f k s).places
   pub further : further_answers f k s ≡ further_answers f k t
 
-module _ (k : Kinds) (s t : List ℕ) (c d : ℕ) (e : judged Tiny k s ≡ Accepted c) (g : judged Tiny k t ≡ Accepted d) (alike : tiny.Alike k s t) where
+module _ (k : Kinds) (s t : List ℕ) (c d : ℕ) (e : judged Tiny k s ≡ Ok c) (g : judged Tiny k t ≡ Ok d) (alike : tiny.Alike k s t) where
   tiny-seen : SeenAlike Tiny k s t
   unfolding entry_at
   tiny-seen =
@@ -95,7 +95,7 @@ module _ (k : Kinds) (s t : List ℕ) (c d : ℕ) (e : judged Tiny k s ≡ Accep
       shown : tiny-values.ItemValues → ItemValues
       shown v = record { kind = Tag v.kind; place = v.place; length = v.length; fields = tiny_fields v.fields }
 
-module _ (k : Kinds) (s t : List ℕ) (c d : ℕ) (e : judged Board k s ≡ Accepted c) (g : judged Board k t ≡ Accepted d) (alike : Alike k s t) where
+module _ (k : Kinds) (s t : List ℕ) (c d : ℕ) (e : judged Board k s ≡ Ok c) (g : judged Board k t ≡ Ok d) (alike : Alike k s t) where
   board-seen : SeenAlike Board k s t
   unfolding entry_at
   board-seen =
@@ -121,7 +121,7 @@ module _ (k : Kinds) (s t : List ℕ) (c d : ℕ) (e : judged Board k s ≡ Acce
       shown : board-shown.ShownItem → ItemValues
       shown v = item_values [] (Item.Board v)
 
-pub seen-alike : (f : Format) (k : Kinds) (s t : List ℕ) (c d : ℕ) → judged f k s ≡ Accepted c → judged f k t ≡ Accepted d → AgreeBut f (NotShown f k s) s t
+pub seen-alike : (f : Format) (k : Kinds) (s t : List ℕ) (c d : ℕ) → judged f k s ≡ Ok c → judged f k t ≡ Ok d → AgreeBut f (NotShown f k s) s t
     → SeenAlike f k s t
 seen-alike Tiny k s t c d e g same = tiny-seen k s t c d e g (record { length = same.length; bytes = same.bytes })
 seen-alike Board k s t c d e g same = board-seen k s t c d e g (record { length = same.length; bytes = same.bytes })

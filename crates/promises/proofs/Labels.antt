@@ -1,5 +1,6 @@
 -- No two map records of one label: in what a reader shows of an accepted board, and in what the board writer was given where it wrote one. Assumes nothing.
-use Prim.Native.Nat.{ℕ, ◌+◌, ◌*◌, ◌<◌}
+use Rattle.std.specs.Prelude.{Some, None, Ok}
+use Prim.Native.Nat.{ℕ, ◌+◌, ◌<◌}
 use mathlib.Core.List.{List, [], ◌∷◌}
 use mathlib.Core.Path.{◌≡◌, refl, sym, ap, subst, ◌∙◌}
 use native.Mathlib.Omega.{arith}
@@ -10,18 +11,16 @@ use Rattle.board_layout.specs.Layout.{map_at, records}
 use Rattle.board_layout.specs.Places.{MapLabel}
 use Rattle.board_layout.specs.declared.Records.TheVariants.{Map}
 use Rattle.board_rules.proofs.laws.Labels.{labels-differ}
-use Rattle.board_writer.specs.Parts.{Parts, Fits, given_size, record_count}
+use Rattle.board_writer.specs.Parts.{Parts, Fits, record_count}
 use Rattle.board_writer.specs.Written.{written}
 use Rattle.board_writer.proofs.laws.Written.{written-exactly, written-reads-back}
 use Rattle.chain.specs.Nth.{nth}
-use Rattle.chain.specs.declared.Found.{Found}
-use Rattle.chain.specs.declared.Found.TheVariants.{At, Nothing}
+use Rattle.chain.specs.Found.{Found}
 use Rattle.kinds.specs.Kinds.{full}
 use Rattle.kinds.specs.declared.Kinds.{Kinds}
 use Rattle.octets.specs.Label.{label}
 use Rattle.octets.specs.Rows as rows
 use Rattle.octets.specs.Rows.{Field, Value, bytes}
-use Rattle.octets.proofs.laws.Runs.{bytes-sixteen}
 use Rattle.promises.proofs.Fields.{second, map-by, map-shown}
 use Rattle.promises.proofs.ReadBack.{written-board}
 use Rattle.promises.specs.Answers.{BoardAnswers, answers}
@@ -29,7 +28,6 @@ use Rattle.promises.specs.Demand2.{ShowsLabel, given_label}
 use Rattle.reader.specs.Formats.{judged}
 use Rattle.reader.specs.declared.Format.TheVariants.{Board}
 use Rattle.verdict.specs.Said.{Said, says, refused, write_said}
-use Rattle.verdict.specs.declared.Judged.TheVariants.{Accepted}
 
 -- the bytes under the first label of what is shown
 abbrev value_bytes : Value → List ℕ
@@ -44,14 +42,14 @@ first_bytes (says []) = []
 first_bytes (says (x ∷ xs)) = value_bytes x.1
 first_bytes (refused n p) = []
 
-module _ (k : Kinds) (s : List ℕ) (n : ℕ) (e : judged Board k s ≡ Accepted n) where
+module _ (k : Kinds) (s : List ℕ) (n : ℕ) (e : judged Board k s ≡ Ok n) where
   -- the label that a record shows is the one at its place
-  shown-label : (i : ℕ) (l : List ℕ) → ShowsLabel (answers Board k s).further i l → (r : ℕ) × ((nth (records Map s (map_at s)) i ≡ At r) × (label s (r + MapLabel) ≡ l))
+  shown-label : (i : ℕ) (l : List ℕ) → ShowsLabel (answers Board k s).further i l → (r : ℕ) × ((nth (records Map s (map_at s)) i ≡ Some r) × (label s (r + MapLabel) ≡ l))
   shown-label i l (more, said) = go (nth (records Map s (map_at s)) i) refl
     where
-      go : (f : Found) → nth (records Map s (map_at s)) i ≡ f → (r : ℕ) × ((nth (records Map s (map_at s)) i ≡ At r) × (label s (r + MapLabel) ≡ l))
-      go (At r) at = (r, (at, ap first_bytes (sym (map-shown k s n e i r (map_at s, (second k s n e, at))) ∙ said)))
-      go Nothing at =
+      go : (f : Found) → nth (records Map s (map_at s)) i ≡ f → (r : ℕ) × ((nth (records Map s (map_at s)) i ≡ Some r) × (label s (r + MapLabel) ≡ l))
+      go (Some r) at = (r, (at, ap first_bytes (sym (map-shown k s n e i r (map_at s, (second k s n e, at))) ∙ said)))
+      go None at =
           let z = sym (map-by k s n e i ∙ ap (λ (f : Found). map_record_said (map_record s f)) at) ∙ said in
           let never : ◌≡◌ {A = ℕ} 0 1 = cc in
           absurd (omega arith)
@@ -69,7 +67,6 @@ module _ (x : Parts) (fits : Fits x) (b : List ℕ) (n : ℕ) (told : write_said
 
   given-label : (i : ℕ) → i < record_count x → ShowsLabel shown i (given_label x i)
   given-label i h =
-      subst (ShowsLabel shown i) (bytes-sixteen x.records (given_size * i))
       (_, (written-board x fits b n told n (omega arith) ((written-exactly x b n).0 told).most full).map_record i h)
 
   pub labels-given : (i j : ℕ) → i < record_count x → j < record_count x → given_label x i ≡ given_label x j → i ≡ j

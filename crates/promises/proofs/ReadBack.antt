@@ -1,9 +1,9 @@
 -- What a reader answers about what was written is what was given. Of tiny images: the items given lie at the places of their numbers, and the pool's texts are those
 -- given, so that each call shows them. Of boards: the writer's own laws, as answers. Assumes nothing.
+use Rattle.std.specs.Prelude.{Option, Some, None, Ok}
 use Prim.Native.Nat.{ℕ, ◌+◌, ◌-◌, ◌/◌, ◌≤◌, ◌<◌}
 use mathlib.Core.Bool.{Bool, true, false, cond, ◌&&◌, and-eq-true_iff}
 use mathlib.Core.List.{List, [], ◌∷◌, ◌++◌}
-use mathlib.Core.Option.{Option, none, some}
 use mathlib.Core.Path.{◌≡◌, refl, sym, ap, ap₂, subst, ◌∙◌}
 use native.Mathlib.Nat.{add-zero}
 use native.Mathlib.Omega.{arith}
@@ -13,7 +13,6 @@ use lib.ListN.{length, get_or, take, drop}
 use Rattle.board.specs.Answers as board-answers
 use Rattle.board.specs.Values.{map_record_said}
 use Rattle.board.specs.declared.Fields.{Fields}
-use Rattle.board.specs.declared.ItemAnswer as board-item
 use Rattle.board.specs.declared.ShownItem.{ShownItem}
 use Rattle.board_layout.specs.Layout.{header_length}
 use Rattle.board_writer.specs.Image.{map_length, board_length, map_place, board_place}
@@ -23,7 +22,6 @@ use Rattle.board_writer.specs.Written as board-writer
 use Rattle.board_writer.proofs.laws.Reader.{written-answers}
 use Rattle.chain.specs.Fill.{tab}
 use Rattle.chain.specs.Keep.{only}
-use Rattle.chain.specs.declared.Found.TheVariants.{At, Nothing}
 use Rattle.chain.proofs.laws.Keep.{only-number}
 use Rattle.kinds.specs.Kinds.{full, listed}
 use Rattle.kinds.specs.Signatures.{eeprom, eepr_map, brd_info}
@@ -50,7 +48,7 @@ use Rattle.tiny.specs.Texts.{referred}
 use Rattle.tiny.specs.Values as tiny
 use Rattle.tiny.specs.Values.{field_values, name_said, string_said}
 use Rattle.tiny.specs.declared.Item.{Item}
-use Rattle.tiny.specs.declared.NameAnswer.{NameAnswer}
+use Rattle.tiny.specs.AnswerTypes.{NameAnswer}
 use Rattle.tiny.proofs.laws.Resolved.{string-text, string-beyond, name-is-text}
 use Rattle.tiny.proofs.laws.Told.{pool-is}
 use Rattle.tiny_layout.specs.Layout.{is_long, head_size, data_length, data_at, next, items}
@@ -69,10 +67,9 @@ use Rattle.tiny_writer.specs.Written as tiny-writer
 use Rattle.tiny_writer.proofs.laws.Shown.{Lies, rows-given, texts-given, place_at, run-stands, good-at, run-lies, pool-stands, pool-lies-last, none-past, run-or-pool, none-pool}
 use Rattle.tiny_writer.proofs.laws.Written.{written-within, written-holds, written-reads-back}
 use Rattle.verdict.specs.Said.{says, refused, write_said}
-use Rattle.verdict.specs.declared.Judged.TheVariants.{Accepted}
 
 -- ---- tiny images
-module _ (x : tiny-parts.Parts) (rest : List ℕ) (good : rule46 x.run ≡ Nothing) (k : Kinds) (c : ℕ) (e : judged k (image x ++ rest) ≡ Accepted c) where
+module _ (x : tiny-parts.Parts) (rest : List ℕ) (good : rule46 x.run ≡ None) (k : Kinds) (c : ℕ) (e : judged k (image x ++ rest) ≡ Ok c) where
   -- what the reader is lent
   abbrev s : List ℕ
   s = image x ++ rest
@@ -84,8 +81,8 @@ module _ (x : tiny-parts.Parts) (rest : List ℕ) (good : rule46 x.run ≡ Nothi
   -- ---- the texts of the pool are those given
   texts-listed : has_pool k ≡ true → (o : Option (List ℕ)) → x.pool ≡ o → texts s (pool k s) ≡ given_texts o
   unfolding texts split tab
-  texts-listed on none o = ap (texts s) (none-pool x rest good k o)
-  texts-listed on (some d) o =
+  texts-listed on None o = ap (texts s) (none-pool x rest good k o)
+  texts-listed on (Some d) o =
       let lies = pool-lies-last x rest good d o in
       ap (texts s) (pool-is k s c e (given_count x) (place (given_count x)) (pool-stands x rest good d o) on lies.tag)
       ∙ texts-given s (place (given_count x)) d lies
@@ -148,7 +145,7 @@ module _ (x : tiny-parts.Parts) (rest : List ℕ) (good : rule46 x.run ≡ Nothi
       go true = λ j. tiny-fields (tiny.pool (length (texts-given s p d lies j)) (start j) (long j))
       go false = refl
 
-  pool-back : (d : List ℕ) → x.pool ≡ some d → ShowsPool k d ((answers Tiny k s).item (given_count x))
+  pool-back : (d : List ℕ) → x.pool ≡ Some d → ShowsPool k d ((answers Tiny k s).item (given_count x))
   unfolding item_at
   pool-back d o =
       let lies = pool-lies-last x rest good d o in
@@ -186,7 +183,7 @@ module _ (x : tiny-parts.Parts) (rest : List ℕ) (good : rule46 x.run ≡ Nothi
       lies : Lies s (place i) (given_item x i)
       lies = run-lies x rest good i serial.below
 
-      only-back : only (serials k s) ≡ At (place i)
+      only-back : only (serials k s) ≡ Some (place i)
       only-back =
           only-number (is_serial k s) (items s) i (place i) (run-stands x rest good i serial.below)
           (ap₂ (λ (a b : Bool). a && b) mark (eq-eqb (byte s (place i)) 0x10 (lies.tag ∙ serial.serial)))
@@ -228,14 +225,14 @@ pub written-tiny : (x : tiny-parts.Parts) (b : List ℕ) (n : ℕ) → write_sai
 written-tiny x b n told k =
     let count : ℕ = given_count x + length (pool_items x.pool) in
     let holds : (tiny-writer.written x b).1 ≡ image x ++ drop n b = written-holds x b n told in
-    let accepted : judged full (image x ++ drop n b) ≡ Accepted count =
-    subst (λ (t : List ℕ). judged full t ≡ Accepted count) holds (written-reads-back x b n told).accepted in
+    let accepted : judged full (image x ++ drop n b) ≡ Ok count =
+    subst (λ (t : List ℕ). judged full t ≡ Ok count) holds (written-reads-back x b n told).accepted in
     subst (λ (t : List ℕ). TinyShows x k (answers Tiny k t)) (sym holds)
     (image-shows x (drop n b) (written-within x b n told).0 k count (shorter-accepts full k (full-contains k) (image x ++ drop n b) count accepted))
 
 -- ---- board images
 -- what the format's own call shows is said by number
-board-said : (k : Kinds) (s : List ℕ) (i : ℕ) (v : ShownItem) → board-answers.item_numbered k s i ≡ board-item.ItemAnswer.Shown v
+board-said : (k : Kinds) (s : List ℕ) (i : ℕ) (v : ShownItem) → board-answers.item_numbered k s i ≡ Ok v
     → (answers Board k s).item i ≡ says (item_values s (board-over.Item.Board v))
 unfolding answers
 board-said k s i v e = ap (item_said s) (sym (board-numbered k s i) ∙ ap from_board e)

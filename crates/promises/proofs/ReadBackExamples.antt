@@ -1,6 +1,6 @@
 -- Reading back at case 4 and at case 13, with each header: the premises of both claims are met there, and what they say of these images, written out. Assumes nothing.
+use Rattle.std.specs.Prelude.{Some}
 use Prim.Native.Nat.{ℕ, ◌<◌}
-use mathlib.Core.Bool.{true}
 use mathlib.Core.List.{List, [], ◌∷◌, ◌++◌, map, flatten}
 use mathlib.Core.Path.{◌≡◌, refl, ap}
 use native.Mathlib.Omega.{arith}
@@ -23,7 +23,6 @@ use Rattle.kinds.specs.declared.Kind.TheVariants.{Tag}
 use Rattle.kinds.specs.declared.Kinds.{Kinds}
 use Rattle.octets.specs.Label.{is_text}
 use Rattle.octets.specs.Rows.{Field, bytes, text, undecodable}
-use Rattle.octets.specs.Runs.{sixteen_at}
 use Rattle.promises.proofs.Demand2.{demand2}
 use Rattle.promises.specs.Answers.{answers}
 use Rattle.promises.specs.Asked.{without}
@@ -45,14 +44,14 @@ use Rattle.tiny_writer.specs.Image.{Parts, parts, body, image}
 use Rattle.tiny_writer.specs.Run.{run_size}
 use Rattle.tiny_writer.specs.Written as tiny-writer
 use Rattle.verdict.specs.Said.{Said, says, refused, write_said}
-use Rattle.verdict.specs.declared.WriteAnswer.{WriteAnswer}
+use Rattle.verdict.specs.Answers.{WriteAnswer}
 
 -- ---- by computation alone: no law is used. A definition under which this is false is ruled out by the claim itself, and not only by how it is proved
 -- a serial, an identity that refers to strings 0 and 1, a tag that is on no list; and the pool "top1", "xy"
 abbrev ident : Parts
 ident =
-    parts (0x10 ∷ 0x01 ∷ 0x00 ∷ 0x61 ∷ 0x06 ∷ 0x00 ∷ 0x01 ∷ 0x63 ∷ 0x05 ∷ 0x41 ∷ 0x42 ∷ 0x02 ∷ 0x01 ∷ 0x07 ∷ []) true
-    (0x74 ∷ 0x6F ∷ 0x70 ∷ 0xB1 ∷ 0x78 ∷ 0xF9 ∷ [])
+    parts (0x10 ∷ 0x01 ∷ 0x00 ∷ 0x61 ∷ 0x06 ∷ 0x00 ∷ 0x01 ∷ 0x63 ∷ 0x05 ∷ 0x41 ∷ 0x42 ∷ 0x02 ∷ 0x01 ∷ 0x07 ∷ [])
+    (Some (0x74 ∷ 0x6F ∷ 0x70 ∷ 0xB1 ∷ 0x78 ∷ 0xF9 ∷ []))
 
 -- the fields that are shown of an item
 abbrev shown_fields : Said ItemValues → List Field
@@ -119,7 +118,7 @@ shows13 = demand2.board_shows board-example.parts13 (fits13 Long) (board-example
 
 record13 : (answers Board bare written13).further.map_record 0
     ≡ says (("MapLabel", bytes (top1 ++ (0x24 ∷ zeros 11))) ∷ counted "Length" 0x20 ∷ counted "Offset" 0 ∷ counted "Address" 0x50 ∷ [])
-unfolding sixteen_at tab
+unfolding tab
 record13 = shows13.map_record 0 (omega arith)
 
 past13 : (answers Board bare written13).further.map_record 1 ≡ refused 42 0
@@ -138,5 +137,5 @@ header_short = shows_short.header
 
 record_short : (answers Board bare written_short).further.map_record 0
     ≡ says (("MapLabel", bytes (top1 ++ (0x24 ∷ zeros 11))) ∷ counted "Length" 0x20 ∷ counted "Offset" 0 ∷ counted "Address" 0x50 ∷ [])
-unfolding sixteen_at tab
+unfolding tab
 record_short = shows_short.map_record 0 (omega arith)

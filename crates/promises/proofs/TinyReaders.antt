@@ -1,5 +1,6 @@
 -- Two readers of one tiny image: at each place the shorter shows what the longer shows, hidden; and so do a string by number and the name, where both accept the
 -- image. Of the pool only the mark of 01 matters, so both use the same one or the shorter uses none. Assumes nothing.
+use Rattle.std.specs.Prelude.{[], ◌∷◌, Some, None, Ok, Err}
 use Prim.Native.Nat.{ℕ, ◌+◌}
 use mathlib.Core.Bool.{Bool, true, false, cond, ◌&&◌}
 use mathlib.Core.List.{List}
@@ -7,8 +8,7 @@ use mathlib.Core.Logic.{◌⊎◌, inl, inr}
 use mathlib.Core.Path.{◌≡◌, refl, sym, ap, ap₂, ◌∙◌}
 use lib.Dec.{eqb}
 use Rattle.chain.specs.Keep.{keep, only}
-use Rattle.chain.specs.declared.Found.{Found}
-use Rattle.chain.specs.declared.Found.TheVariants.{At, Nothing}
+use Rattle.chain.specs.Found.{Found}
 use Rattle.chain.proofs.laws.All.{all-of}
 use Rattle.chain.proofs.laws.Keep.{keep-none}
 use Rattle.kinds.specs.Kinds.{listed, Contains}
@@ -28,8 +28,7 @@ use Rattle.tiny.specs.Major.{major_text}
 use Rattle.tiny.specs.Values as values
 use Rattle.tiny.specs.Values.{reference_value, identity_values, field_values, string_said, name_said}
 use Rattle.tiny.specs.declared.Item.{Item}
-use Rattle.tiny.specs.declared.NameAnswer.{NameAnswer}
-use Rattle.tiny.specs.declared.StringAnswer.{StringAnswer}
+use Rattle.tiny.specs.AnswerTypes.{NameAnswer}
 use Rattle.tiny.proofs.laws.Exactly.{refused-unchanged, no-name-exactly}
 use Rattle.tiny.proofs.laws.Resolved.{reference-unlisted, string-unlisted}
 use Rattle.tiny.proofs.laws.Serials.{serial-known, serial-shown}
@@ -43,7 +42,6 @@ use Rattle.tiny_layout.specs.declared.Shape.{Shape}
 use Rattle.tiny_layout.proofs.laws.Pool.{pool-lists}
 use Rattle.tiny_rules.specs.Judged.{judged}
 use Rattle.verdict.specs.Said.{Said, says, refused}
-use Rattle.verdict.specs.declared.Judged.TheVariants.{Accepted}
 
 -- hiding the strings of a known item's fields is hiding its fields
 tiny-hides : (k : Kinds) (x : values.FieldValues) → tiny_fields (hide_tiny k x) ≡ hide_fields k (tiny_fields x)
@@ -78,7 +76,7 @@ module _ (longer shorter : Kinds) (contains : Contains longer shorter) (s : List
         major = byte s (start + 2);
         letters = major_text (byte s (start + 2));
         minor = byte s (start + 3);
-        characters = record { first = byte s (start + 4); second = byte s (start + 5) };
+        characters = byte s (start + 4) ∷ byte s (start + 5) ∷ [];
       }
 
   fields-hidden : (a : Shape) (p : ℕ) → field_values s (fields_at s (pool shorter s) a p) ≡ hide_tiny shorter (field_values s (fields_at s (pool longer s) a p))
@@ -127,15 +125,15 @@ module _ (longer shorter : Kinds) (contains : Contains longer shorter) (s : List
       go false off = refl
 
   -- ---- string by number, and the name, where both accept
-  module _ (c : ℕ) (e : judged longer s ≡ Accepted c) (d : judged shorter s ≡ Accepted c) where
+  module _ (c : ℕ) (e : judged longer s ≡ Ok c) (d : judged shorter s ≡ Ok c) where
     pub string-hidden : (n : ℕ) → string_said s (string_numbered shorter s n) ≡ cond (has_pool shorter) (string_said s (string_numbered longer s n)) (says values.undecodable)
     unfolding string_numbered
     string-hidden n = go (has_pool shorter) refl
       where
-        found : (k : Kinds) → judged k s ≡ Accepted c → has_pool k ≡ true → string_if k s n (judged k s) ≡ as_string (reference s (pool k s) n)
+        found : (k : Kinds) → judged k s ≡ Ok c → has_pool k ≡ true → string_if k s n (judged k s) ≡ as_string (reference s (pool k s) n)
         found k f on =
             ap (string_if k s n) f ∙ string-by-reference k s n c
-            ∙ ap (λ (b : Bool). cond b (as_string (reference s (pool k s) n)) StringAnswer.Undecodable) on
+            ∙ ap (λ (b : Bool). cond b (as_string (reference s (pool k s) n)) (Ok None)) on
 
         go : (b : Bool) → has_pool shorter ≡ b
             → string_said s (string_if shorter s n (judged shorter s)) ≡ cond b (string_said s (string_if longer s n (judged longer s))) (says values.undecodable)
@@ -145,14 +143,14 @@ module _ (longer shorter : Kinds) (contains : Contains longer shorter) (s : List
         go false off = string-unlisted shorter s c d off n
 
     -- without the serial's kind, or without the pool, there is no name, and the buffer stays
-    no-serials : has_serial shorter ≡ false → only (serials shorter s) ≡ Nothing
+    no-serials : has_serial shorter ≡ false → only (serials shorter s) ≡ None
     unfolding only
     no-serials off =
         ap only
         (keep-none (is_serial shorter s) (items s)
         (all-of (λ p. is_serial shorter s p ≡ false) (λ p. ap (λ (b : Bool). b && eqb (byte s p) 0x10) off) (items s)))
 
-    no-name : (b : List ℕ) → (only (serials shorter s) ≡ Nothing) ⊎ (has_pool shorter ≡ false) → name_of shorter s b ≡ (NameAnswer.Refused (refused_with 44), b)
+    no-name : (b : List ℕ) → (only (serials shorter s) ≡ None) ⊎ (has_pool shorter ≡ false) → name_of shorter s b ≡ (Err (refused_with 44), b)
     no-name b why =
         let said = (no-name-exactly shorter s c d b).1 why in
         ap₂ (λ (a : NameAnswer) (l : List ℕ). (a, l)) said (refused-unchanged shorter s b (refused_with 44) said)
@@ -162,7 +160,7 @@ module _ (longer shorter : Kinds) (contains : Contains longer shorter) (s : List
       same-serials : serials shorter s ≡ serials longer s
       same-serials = ap (λ (t : Bool). keep (λ p. t && eqb (byte s p) 0x10) (items s)) (on ∙ sym (contains.keeps (Tag 0x10) on))
 
-      by-text : (k : Kinds) (p : ℕ) → only (serials k s) ≡ At p → name_at k s b (At p) ≡ copied s b (reference s (pool k s) (byte s (data_at s p)))
+      by-text : (k : Kinds) (p : ℕ) → only (serials k s) ≡ Some p → name_at k s b (Some p) ≡ copied s b (reference s (pool k s) (byte s (data_at s p)))
       by-text k p one =
           let known = serial-known k s p one in
           ap (copied s b) (serial-shown k s p (pool k s) known.mark known.own)
@@ -173,10 +171,10 @@ module _ (longer shorter : Kinds) (contains : Contains longer shorter) (s : List
           ap (name_if shorter s b) d ∙ go (only (serials shorter s)) refl ∙ ap (λ (l : List ℕ). name_at longer s b (only l)) same-serials ∙ sym (ap (name_if longer s b) e)
         where
           go : (f : Found) → only (serials shorter s) ≡ f → name_at shorter s b f ≡ name_at longer s b f
-          go (At p) one =
+          go (Some p) one =
               by-text shorter p one ∙ ap (λ (x : Pool). copied s b (reference s x (byte s (data_at s p)))) (same-pool pooled)
               ∙ sym (by-text longer p (ap only (sym same-serials) ∙ one))
-          go Nothing one = refl
+          go None one = refl
 
     -- the name, with what the buffer then holds
     abbrev said : NameAnswer × List ℕ → Said ℕ × List ℕ

@@ -1,5 +1,6 @@
 -- What one reader sees in one accepted image, whatever its format: the places of the items, and at each place the item and its entry. The four calls of every
 -- format are made of it, so that what is claimed of them follows from what holds at each place. Assumes nothing.
+use Rattle.std.specs.Prelude.{Some, None}
 use Prim.Native.Nat.{ℕ, zero, suc, ◌+◌, ◌-◌, ◌<◌, ◌≤◌}
 use mathlib.Core.Bool.{Bool, true, false, cond}
 use mathlib.Core.List.{List, [], ◌∷◌, ◌++◌, map}
@@ -11,8 +12,7 @@ use lib.ListN.{length, drop, get_or, length-map}
 use lib.Seq.{take-append_seam, drop-append_seam, get_or-append-add, get_or-drop}
 use Rattle.chain.specs.All.{All}
 use Rattle.chain.specs.Nth.{nth}
-use Rattle.chain.specs.declared.Found.{Found}
-use Rattle.chain.specs.declared.Found.TheVariants.{At, Nothing}
+use Rattle.chain.specs.Found.{Found}
 use Rattle.chain.proofs.laws.All.{map-agree}
 use Rattle.chain.proofs.laws.Nth.{nth-below, nth-past, nth-all}
 use Rattle.promises.specs.Demand3.{as_step}
@@ -30,12 +30,12 @@ pub record View : Type 0 where
 
 -- item by number, and a step, by the place of the number
 abbrev pub item_from : View → Found → Said ItemValues
-item_from v (At p) = says (v.item p)
-item_from v Nothing = refused 42 0
+item_from v (Some p) = says (v.item p)
+item_from v None = refused 42 0
 
 abbrev pub step_from : View → Found → Said StepValues
-step_from v (At p) = says (reader.item (v.item p))
-step_from v Nothing = says reader.none_left
+step_from v (Some p) = says (reader.item (v.item p))
+step_from v None = says reader.none_left
 
 -- n entries before the rest of the list l, where there is room
 abbrev pub fill_if : Bool → ℕ → List Entry → List Entry → Said ℕ × List Entry
@@ -48,12 +48,12 @@ abbrev pub list_from : View → List Entry → Said ℕ × List Entry
 list_from v l = fill_from (map v.entry v.places) l
 
 -- what holds of the place found at a number
-pub at-number : (l : List ℕ) (i : ℕ) (P : Found → Type 0) → ((p : ℕ) → nth l i ≡ At p → P (At p)) → P Nothing → P (nth l i)
+pub at-number : (l : List ℕ) (i : ℕ) (P : Found → Type 0) → ((p : ℕ) → nth l i ≡ Some p → P (Some p)) → P None → P (nth l i)
 at-number l i P some none = go (nth l i) refl
   where
     go : (f : Found) → nth l i ≡ f → P f
-    go (At p) e = some p e
-    go Nothing e = none
+    go (Some p) e = some p e
+    go None e = none
 
 -- ---- two readers: at each place the one shows what the other shows, hidden
 fill-hides : (g : Entry → Entry) (es fs l : List Entry) → es ≡ map g fs → fill_from es l ≡ hide_list g (fill_from fs l).0 (fill_from fs l).1
@@ -110,7 +110,7 @@ module _
 
 -- ---- one reader: the walk and the list show the items that are shown by number
 -- an element of a mapped list before anything else
-entry-at : (f : ℕ → Entry) (l : List ℕ) (r : List Entry) (i p : ℕ) → nth l i ≡ At p → (d : Entry) → get_or (map f l ++ r) i d ≡ f p
+entry-at : (f : ℕ → Entry) (l : List ℕ) (r : List Entry) (i p : ℕ) → nth l i ≡ Some p → (d : Entry) → get_or (map f l ++ r) i d ≡ f p
 unfolding nth
 entry-at f [] r i p e d = let z : ◌≡◌ {A = ℕ} 0 1 = cc in absurd (omega arith)
 entry-at f (x ∷ xs) r zero p e d = let z : x ≡ p = cc in ap f z
@@ -125,7 +125,7 @@ module _ (v : View) where
 
   pub walk-shows : (i : ℕ) → i < length v.places → step_from v (nth v.places i) ≡ as_step (item_from v (nth v.places i))
   walk-shows i h =
-      let e : nth v.places i ≡ At (get_or v.places i 0) = nth-below v.places i h in
+      let e : nth v.places i ≡ Some (get_or v.places i 0) = nth-below v.places i h in
       ap (step_from v) e ∙ sym (ap (λ (f : Found). as_step (item_from v f)) e)
 
   pub walk-ends : (i : ℕ) → length v.places ≤ i → step_from v (nth v.places i) ≡ says reader.none_left
@@ -151,8 +151,8 @@ module _ (v : View) where
   entry-shows made same r i x e d = go (nth v.places i) refl e
     where
       go : (f : Found) → nth v.places i ≡ f → item_from v f ≡ says x → get_or (es ++ r) i d ≡ made x
-      go (At p) at c = let z : v.item p ≡ x = cc in entry-at v.entry v.places r i p at d ∙ same p ∙ ap made z
-      go Nothing at c = let y : ◌≡◌ {A = ℕ} 0 1 = cc in absurd (omega arith)
+      go (Some p) at c = let z : v.item p ≡ x = cc in entry-at v.entry v.places r i p at d ∙ same p ∙ ap made z
+      go None at c = let y : ◌≡◌ {A = ℕ} 0 1 = cc in absurd (omega arith)
 
   -- and what lies past the entries is as it was lent
   pub rest-stays : (n : ℕ) → length v.places ≡ n → (l : List Entry) (i : ℕ) → n ≤ i → (d : Entry) → get_or (es ++ drop n l) i d ≡ get_or l i d

@@ -26,7 +26,7 @@ use Rattle.kinds.specs.declared.Kind.TheVariants.{Signature}
 use Rattle.kinds.specs.declared.Kinds.{Kinds}
 use Rattle.octets.specs.Bytes.{le16, le32, le64}
 use Rattle.octets.specs.Label.{is_text, is_label_text, text_end, bad_label}
-use Rattle.octets.specs.Runs.{sixteen_at, nonzero}
+use Rattle.octets.specs.Runs.{nonzero}
 use Rattle.promises.specs.Answers.{Answers, answers}
 use Rattle.promises.specs.Asked.{without, blank, marked}
 use Rattle.promises.specs.Demand3.{as_step}
@@ -76,7 +76,7 @@ record Hides : Type 0 where
   pin : (answers Board pinless pins).further.gpio_record 3 0 ≡ (hidden Board pinless (answers Board full pins)).further.gpio_record 3 0
 
 hides : Hides
-unfolding answers hidden item_numbered list_of entry_at onward moved shown walked step_numbered map_record_numbered gpio_record_numbered rest_at eeprom_at eepr_map_at brd_info_at item_at map_record_at gpio_record_at judged rule20 rule21 rule22 rule23 rule24 rule25 rule26 rule27 rule28 rule29 rule30 rule31 rule32 rule33 rule34 misplaced gap_used expected out_of_order prom_sig_at covered check_over bad_map_head bad_board_head bad_prom_sig_head bad_hash bad_hash_of hash_size bad_map bad_map_field bad_map_record repeated_label bad_gpio_record bad_board_type reserved_used bad_inside bad_gpio shape_at shape_of listed_shape end_at round16 next map_at board_at later_at records visit chain first nth tab le16 le32 le64 sixteen_at nonzero is_text is_label_text text_end bad_label listed picked all same crc32 shift shifts step32
+unfolding answers hidden item_numbered list_of entry_at onward moved shown walked step_numbered map_record_numbered gpio_record_numbered rest_at eeprom_at eepr_map_at brd_info_at item_at map_record_at gpio_record_at judged rule20 rule21 rule22 rule23 rule24 rule25 rule26 rule27 rule28 rule29 rule30 rule31 rule32 rule33 rule34 misplaced gap_used expected out_of_order prom_sig_at covered check_over bad_map_head bad_board_head bad_prom_sig_head bad_hash bad_hash_of hash_size bad_map bad_map_field bad_map_record repeated_label bad_gpio_record bad_board_type reserved_used bad_inside bad_gpio shape_at shape_of listed_shape end_at round16 next map_at board_at later_at records visit chain first nth tab le16 le32 le64 nonzero is_text is_label_text text_end bad_label listed picked all same crc32 shift shifts step32
 hides = record { item = refl; list = refl; step = refl; pin = refl }
 
 record Shows : Type 0 where
@@ -89,5 +89,5 @@ record Shows : Type 0 where
   steps : map (answers Board full one).walk (3 ∷ 4 ∷ []) ≡ as_step ((answers Board full one).item 3) ∷ says reader.none_left ∷ []
 
 shows : Shows
-unfolding answers hidden item_numbered list_of entry_at onward moved shown walked step_numbered map_record_numbered gpio_record_numbered rest_at eeprom_at eepr_map_at brd_info_at item_at map_record_at gpio_record_at judged rule20 rule21 rule22 rule23 rule24 rule25 rule26 rule27 rule28 rule29 rule30 rule31 rule32 rule33 rule34 misplaced gap_used expected out_of_order prom_sig_at covered check_over bad_map_head bad_board_head bad_prom_sig_head bad_hash bad_hash_of hash_size bad_map bad_map_field bad_map_record repeated_label bad_gpio_record bad_board_type reserved_used bad_inside bad_gpio shape_at shape_of listed_shape end_at round16 next map_at board_at later_at records visit chain first nth tab le16 le32 le64 sixteen_at nonzero is_text is_label_text text_end bad_label listed picked all same crc32 shift shifts step32
+unfolding answers hidden item_numbered list_of entry_at onward moved shown walked step_numbered map_record_numbered gpio_record_numbered rest_at eeprom_at eepr_map_at brd_info_at item_at map_record_at gpio_record_at judged rule20 rule21 rule22 rule23 rule24 rule25 rule26 rule27 rule28 rule29 rule30 rule31 rule32 rule33 rule34 misplaced gap_used expected out_of_order prom_sig_at covered check_over bad_map_head bad_board_head bad_prom_sig_head bad_hash bad_hash_of hash_size bad_map bad_map_field bad_map_record repeated_label bad_gpio_record bad_board_type reserved_used bad_inside bad_gpio shape_at shape_of listed_shape end_at round16 next map_at board_at later_at records visit chain first nth tab le16 le32 le64 nonzero is_text is_label_text text_end bad_label listed picked all same crc32 shift shifts step32
 shows = record { exactly = refl; item = refl; list = refl; steps = refl }

@@ -2,7 +2,7 @@
 -- the writers write is accepted and reads back as given; an accepted image that a writer can make is rebuilt to the last byte." `Demand2` is the claim; it is
 -- proved in proofs/Demand2. Two premises are met by the types of every call, and contracts say so: an image is of bytes (`Octets`: the contract of
 -- `reader::judge`), and what a board is written of fits its fields (`Fits`: that of `board_writer::write`). Assumes nothing.
-use Rattle.std.specs.Prelude.{ℕ, ◌+◌, ◌*◌, ◌<◌, ◌≤◌, true, false, List, [], ◌∷◌, ◌++◌, ◌⊎◌, ◌↔◌, ◌≡◌, length, get_or, take, drop}
+use Rattle.std.specs.Prelude.{ℕ, ◌+◌, ◌*◌, ◌<◌, ◌≤◌, true, false, List, [], ◌∷◌, ◌++◌, ◌⊎◌, ◌↔◌, ◌≡◌, length, get_or, take, drop, Some, None}
 use Rattle.board.specs.Shown.{record_shown}
 use Rattle.board_layout.specs.Layout.{shape_at, struct_len, structures, records}
 use Rattle.board_layout.specs.Shapes.{knows, HasRecords}
@@ -13,7 +13,6 @@ use Rattle.board_writer.specs.ReadsBack as board-back
 use Rattle.board_writer.specs.Written as board-writer
 use Rattle.chain.specs.Keep.{only}
 use Rattle.chain.specs.Nth.{nth}
-use Rattle.chain.specs.declared.Found.TheVariants.{At, Nothing}
 use Rattle.kinds.specs.Kinds.{full}
 use Rattle.kinds.specs.declared.Kind.TheVariants.{Tag}
 use Rattle.kinds.specs.declared.Kinds.{Kinds}
@@ -64,11 +63,11 @@ EachIdentity P not_known = Unit {0}
 
 -- r is the place of record n of the map, the second structure; and of record n of the known GPIO data that are item i
 abbrev pub MapRecordAt : List ℕ → ℕ → ℕ → Type 0
-MapRecordAt s n r = (m : ℕ) × ((nth (structures s) 1 ≡ At m) × (nth (records Map s m) n ≡ At r))
+MapRecordAt s n r = (m : ℕ) × ((nth (structures s) 1 ≡ Some m) × (nth (records Map s m) n ≡ Some r))
 
 abbrev pub GpioRecordAt : Kinds → List ℕ → ℕ → ℕ → ℕ → Type 0
 GpioRecordAt k s i n r =
-    (p : ℕ) × ((nth (structures s) i ≡ At p) × (knows k (shape_at s p) ≡ true) × HasRecords Gpio (shape_at s p) × (nth (records Gpio s p) n ≡ At r))
+    (p : ℕ) × ((nth (structures s) i ≡ Some p) × (knows k (shape_at s p) ≡ true) × HasRecords Gpio (shape_at s p) × (nth (records Gpio s p) n ≡ Some r))
 
 -- record i of the map shows these bytes under "MapLabel"; and the label of record i of those given to the board writer, "seventeen bytes each"
 abbrev pub ShowsLabel : BoardAnswers → ℕ → List ℕ → Type 0
@@ -83,9 +82,9 @@ pub record Strings (k : Kinds) (s : List ℕ) (a : TinyAnswers) : Type 0 where
   pub string : (i : ℕ) → i < length (texts s (pool k s)) → a.string i ≡ says (text (get_or (texts s (pool k s)) i []))
   pub no_string : (i : ℕ) → length (texts s (pool k s)) ≤ i → a.string i ≡ refused 42 0
   -- the name is the text that the only known serial refers to, at the front of the lent buffer, and the rest of it is as it was; 43 where the buffer is too short
-  pub name : (p : ℕ) → only (serials k s) ≡ At p → (b : List ℕ) → length (serial_text k s p) ≤ length b
+  pub name : (p : ℕ) → only (serials k s) ≡ Some p → (b : List ℕ) → length (serial_text k s p) ≤ length b
       → a.name b ≡ (says (length (serial_text k s p)), serial_text k s p ++ drop (length (serial_text k s p)) b)
-  pub too_short : (p : ℕ) → only (serials k s) ≡ At p → (b : List ℕ) → length b < length (serial_text k s p) → a.name b ≡ (refused 43 0, b)
+  pub too_short : (p : ℕ) → only (serials k s) ≡ Some p → (b : List ℕ) → length b < length (serial_text k s p) → a.name b ≡ (refused 43 0, b)
 
 -- ---- records of a board image that is accepted, by number
 pub record Records (k : Kinds) (s : List ℕ) (a : BoardAnswers) : Type 0 where
@@ -98,10 +97,10 @@ pub record Demand2 : Type 0 where
   -- "An image is accepted exactly when the rules .. hold": no rule of the table is broken anywhere. The count is that of the items on the walk
   pub accepted : (f : Format) (k : Kinds) (s : List ℕ) (n : ℕ) → ((answers f k s).judge ≡ says n) ↔ (Unbroken (table f k s) × (length (places f s) ≡ n))
   -- "Each field shown is the field those rules define": item i shows what the tables define at its place
-  pub item : (f : Format) (k : Kinds) (s : List ℕ) (n : ℕ) → (answers f k s).judge ≡ says n → (i p : ℕ) → nth (places f s) i ≡ At p
+  pub item : (f : Format) (k : Kinds) (s : List ℕ) (n : ℕ) → (answers f k s).judge ≡ says n → (i p : ℕ) → nth (places f s) i ≡ Some p
       → (answers f k s).item i ≡ says (item_values s (item_at f k s (pool_of f k s) p))
   -- "kind (the tag, or the eight signature bytes), place (of its first byte), data length", known or not
-  pub head : (f : Format) (k : Kinds) (s : List ℕ) (n : ℕ) → (answers f k s).judge ≡ says n → (i p : ℕ) → nth (places f s) i ≡ At p → (x : ItemValues)
+  pub head : (f : Format) (k : Kinds) (s : List ℕ) (n : ℕ) → (answers f k s).judge ≡ says n → (i p : ℕ) → nth (places f s) i ≡ Some p → (x : ItemValues)
       → (answers f k s).item i ≡ says x → (x.kind ≡ as_kind f (kind_at f s p)) × (x.place ≡ p) × (x.length ≡ length_at f s p)
   -- under each label the number, the bytes or the string at its row, and of an item not known nothing
   pub fields : (f : Format) (k : Kinds) (s : List ℕ) (n : ℕ) → (answers f k s).judge ≡ says n → (i : ℕ) (x : ItemValues) → (answers f k s).item i ≡ says x
@@ -119,7 +118,7 @@ pub record Demand2 : Type 0 where
   pub strings : (k : Kinds) (s : List ℕ) (n : ℕ) → (answers Tiny k s).judge ≡ says n → has_pool k ≡ true → Strings k s (answers Tiny k s).further
   -- "44 | no name: not exactly one known tag 10 item, or undecodable"
   pub no_name : (k : Kinds) (s : List ℕ) (n : ℕ) → (answers Tiny k s).judge ≡ says n → (b : List ℕ)
-      → (((answers Tiny k s).further.name b).0 ≡ refused 44 0) ↔ ((only (serials k s) ≡ Nothing) ⊎ (has_pool k ≡ false))
+      → (((answers Tiny k s).further.name b).0 ≡ refused 44 0) ↔ ((only (serials k s) ≡ None) ⊎ (has_pool k ≡ false))
   -- records by number
   pub records : (k : Kinds) (s : List ℕ) (n : ℕ) → (answers Board k s).judge ≡ says n → Records k s (answers Board k s).further
   -- paper 02, R-2: "Two map records whose sixteen label bytes are equal are now refused by every reader": records that show one MapLabel are one record

@@ -1,8 +1,7 @@
 -- Reading back by the reader's own calls. Demand 2: "What the writers write is accepted and reads back as given": asked by number about what was written, a reader
 -- shows what was given, items, strings, name and records. What is expected is said of the bytes given alone, and of no byte of the image. Demand2 has `TinyShows`
 -- and `BoardShows` beside `parts_of`; they are proved in proofs/ReadBack. Assumes nothing.
-use Rattle.std.specs.Prelude.{ℕ, ◌+◌, ◌-◌, ◌<◌, ◌≤◌, true, cond, List, [], ◌∷◌, ◌++◌, ◌≡◌, ltb, length, get_or, drop}
-use Rattle.std.proofs.Math.Option.{Option, none, some}
+use Rattle.std.specs.Prelude.{ℕ, Option, Some, None, ◌+◌, ◌-◌, ◌<◌, ◌≤◌, true, cond, List, [], ◌∷◌, ◌++◌, ◌≡◌, ltb, length, get_or, drop}
 use Rattle.board.specs.Values.{counted, field_values, map_record_values}
 use Rattle.board.specs.declared.Fields.{Fields}
 use Rattle.board_layout.specs.Places.{head_size}
@@ -42,8 +41,8 @@ given_item x i = get_or (run_items x.run) i []
 
 -- the strings given: the texts that lie end to end in the pool's data
 abbrev pub given_texts : Option (List ℕ) → List (List ℕ)
-given_texts none = []
-given_texts (some pool) = split pool
+given_texts None = []
+given_texts (Some pool) = split pool
 
 -- those that a reader has: none without 01 on its list
 abbrev pub texts_for : Kinds → tiny-parts.Parts → List (List ℕ)
@@ -87,7 +86,7 @@ given_name x i = get_or (given_texts x.pool) (byte (given_item x i) 2) []
 pub record TinyShows (x : tiny-parts.Parts) (k : Kinds) (a : Answers Tiny) : Type 0 where
   -- the items of the run by their numbers, then the pool, and no more
   pub item : (i : ℕ) → i < given_count x → ShowsItem k x (given_item x i) (a.item i)
-  pub pool : (pool : List ℕ) → x.pool ≡ some pool → ShowsPool k pool (a.item (given_count x))
+  pub pool : (pool : List ℕ) → x.pool ≡ Some pool → ShowsPool k pool (a.item (given_count x))
   pub end : (i : ℕ) → given_count x + length (pool_items x.pool) ≤ i → a.item i ≡ refused 42 0
   -- string n is text n of those given, and 42 comes past them
   pub string : has_pool k ≡ true → (n : ℕ) → n < length (given_texts x.pool) → a.further.string n ≡ says (tiny.text (get_or (given_texts x.pool) n []))

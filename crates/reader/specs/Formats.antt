@@ -15,7 +15,7 @@ use Rattle.reader.specs.declared.Format.TheVariants.{Tiny, Board}
 use Rattle.tiny_layout.specs.Layout as tiny
 use Rattle.tiny_layout.specs.Pool.{is_known}
 use Rattle.tiny_rules.specs.Judged as tiny-rules
-use Rattle.verdict.specs.declared.Judged.{Judged}
+use Rattle.verdict.specs.Answers.{Judged}
 
 -- accepted with the count of items, or refused
 abbrev pub judged : Format → Kinds → List ℕ → Judged

@@ -1,4 +1,5 @@
 -- The definitions that the contracts cite, and examples of them. Assumes nothing.
+pub mod AnswerTypes
 pub mod Formats
 pub mod Items
 pub mod Entries

@@ -6,11 +6,10 @@ use Rattle.kinds.specs.declared.Kind.{Kind}
 use Rattle.kinds.specs.declared.Kind.TheVariants.{Tag, Signature}
 use Rattle.octets.specs.Rows.{Field}
 use Rattle.reader.specs.declared.Item.{Item}
-use Rattle.reader.specs.declared.ItemAnswer.{ItemAnswer}
-use Rattle.reader.specs.declared.ListAnswer.{ListAnswer}
+use Rattle.reader.specs.AnswerTypes.{ItemAnswer, ListAnswer}
 use Rattle.reader.specs.declared.StepAnswer.{StepAnswer}
 use Rattle.tiny.specs.Values as tiny
-use Rattle.verdict.specs.Said.{Said, says, refused}
+use Rattle.verdict.specs.Said.{Said, says, refused, said_by}
 
 -- the fields of a known item of a tiny image, or of a known structure; "An item not known shows only its kind, place and length."
 pub data FieldValues : Type 0 where
@@ -44,8 +43,7 @@ item_values s (Item.Board x) = record { kind = Signature x.signature; place = x.
 
 -- item by number
 abbrev pub item_said : List ℕ → ItemAnswer → Said ItemValues
-item_said s (ItemAnswer.Shown x) = says (item_values s x)
-item_said s (ItemAnswer.Refused r) = refused r.number r.place
+item_said s a = said_by (item_values s) a
 
 -- a step: an item, or that none is left. (A walk that has not stepped shows nothing.)
 pub data StepValues : Type 0 where
@@ -61,5 +59,4 @@ step_said s (StepAnswer.Refused r) = refused r.number r.place
 
 -- the list: how many entries were filled
 abbrev pub list_said : ListAnswer → Said ℕ
-list_said (ListAnswer.Filled n) = says n
-list_said (ListAnswer.Refused r) = refused r.number r.place
+list_said a = said_by (λ n. n) a

@@ -1,7 +1,7 @@
 -- The walk. Paper 01: "a walk that carries the lent image with it and steps from item to item". A step over a refused image shows the refusal, and the walk
 -- stays; a step past the last item shows that none is left, and the walk stays. A step is defined from every position, also one that no walk comes to.
 -- Assumes nothing.
-use Rattle.std.specs.Prelude.{ℕ, zero, suc, min, cond, List, ltb}
+use Rattle.std.specs.Prelude.{ℕ, zero, suc, min, cond, List, ltb, Ok, Err}
 use Rattle.std.specs.Borrow.{Bor}
 use Rattle.chain.specs.Onward.{onward}
 use Rattle.kinds.specs.declared.Kinds.{Kinds}
@@ -11,8 +11,7 @@ use Rattle.reader.specs.declared.Format.{Format}
 use Rattle.reader.specs.declared.Position.{Position}
 use Rattle.reader.specs.declared.StepAnswer.{StepAnswer}
 use Rattle.reader.specs.declared.Walk.{Walk}
-use Rattle.verdict.specs.declared.Judged.{Judged}
-use Rattle.verdict.specs.declared.Judged.TheVariants.{Accepted, Refused}
+use Rattle.verdict.specs.Answers.{Judged}
 
 -- where a walk begins: the verdict, the pool, where the items end, and the place of the first item
 abbrev pub first : Format → Kinds → List ℕ → Position
@@ -21,16 +20,16 @@ first f k s = record { verdict = judged f k s; pool = pool_of f k s; end = end f
 -- ---- a step, by the verdict that the position carries
 -- where it leads: over an accepted image on to the next item, or to the end of the items; over a refused one the walk stays
 abbrev pub moved_if : Format → List ℕ → Position → Judged → ℕ
-moved_if f s x (Accepted count) = onward (next f s) x.end x.at
-moved_if f s x (Refused r) = x.at
+moved_if f s x (Ok count) = onward (next f s) x.end x.at
+moved_if f s x (Err r) = x.at
 
 unfoldable pub moved : Format → List ℕ → Position → ℕ
 moved f s x = moved_if f s x x.verdict
 
 -- what it shows: the item at the position, or that none is left at the end of the items; the refusal of a refused image
 abbrev pub shown_if : Format → Kinds → List ℕ → Position → Judged → StepAnswer
-shown_if f k s x (Accepted count) = cond (ltb x.at x.end) (StepAnswer.Shown (item_at f k s x.pool x.at)) StepAnswer.NoneLeft
-shown_if f k s x (Refused r) = StepAnswer.Refused r
+shown_if f k s x (Ok count) = cond (ltb x.at x.end) (StepAnswer.Shown (item_at f k s x.pool x.at)) StepAnswer.NoneLeft
+shown_if f k s x (Err r) = StepAnswer.Refused r
 
 unfoldable pub shown : Format → Kinds → List ℕ → Position → StepAnswer
 shown f k s x = shown_if f k s x x.verdict
@@ -67,5 +66,5 @@ step_numbered f k s n = shown f k s (walked f k s n)
 
 -- as many steps as there are items lead to the end; a refused image needs none. (`laws/Walk`: step n shows what this step shows)
 abbrev pub steps_due : Judged → ℕ → ℕ
-steps_due (Accepted count) n = min n count
-steps_due (Refused r) n = 0
+steps_due (Ok count) n = min n count
+steps_due (Err r) n = 0

@@ -1,27 +1,17 @@
 // The list of entries. All that `list` decides is decided by the functions before it.
-ghost use Rattle.std.specs.Prelude.{◌≡◌, ◌-◌};
+ghost use Rattle.std.specs.Prelude.{◌≡◌};
 ghost use Rattle.reader.specs.Entries.{entry_at};
 ghost use Rattle.reader.specs.Formats.{judged};
-ghost use Rattle.reader.specs.Answers.{list_answer, entry_count, list_of};
+ghost use Rattle.reader.specs.Answers.{list_answer, list_of};
 ghost use Rattle.reader.specs.declared.Format.{Format};
 
 use super::layout::{first_place, go_on, items_end};
-use super::{Entry, Format, ListAnswer, judge};
+use super::{Entry, Format, judge};
 use board_layout::{head_at, is_known, shape_of};
 use kinds::Kinds;
 use octets::byte_at;
 use tiny_layout::data_length;
-use verdict::{Judged, Refusal};
-
-// How many data bytes a structure of this Length has past its generic head.
-fn past_head(length: u32) -> usize
-    ensures { result ≡ length - 16 }
-{
-    if length < 16 {
-        return 0;
-    }
-    (length - 16) as usize
-}
+use verdict::{Refusal, refused};
 
 // The entry of the item at a place of a tiny image.
 fn tiny_entry(image: &[u8], kinds: Kinds, at: u32) -> Entry
@@ -45,7 +35,7 @@ fn board_entry(image: &[u8], kinds: Kinds, at: u32) -> Entry
     Entry {
         kind: head.signature,
         place: at as usize,
-        length: past_head(head.length),
+        length: head.length.saturating_sub(16) as usize,
         known: is_known(kinds, shape_of(head.signature, head.major)),
     }
 }
@@ -61,47 +51,26 @@ fn entry_at(format: Format, image: &[u8], kinds: Kinds, at: u32) -> Entry
 }
 
 // What is answered for a lent list of this many entries.
-fn list_answer(format: Format, image: &[u8], kinds: Kinds, room: usize) -> ListAnswer
+fn list_answer(format: Format, image: &[u8], kinds: Kinds, room: usize) -> Result<usize, Refusal>
     ensures { result ≡ list_answer room (judged format kinds image.now) }
 {
-    let judgement = judge(format, image, kinds);
-    match judgement {
-        Judged::Accepted(count) => {
-            if count <= room {
-                return ListAnswer::Filled(count);
-            }
-            ListAnswer::Refused(Refusal {
-                number: 43,
-                place: 0,
-            })
-        }
-        Judged::Refused(refusal) => ListAnswer::Refused(refusal),
+    let count = judge(format, image, kinds)?;
+    if room < count {
+        return refused(43, 0);
     }
-}
-
-// How many entries are to be filled.
-fn entry_count(answer: ListAnswer) -> usize
-    ensures { result ≡ entry_count answer }
-{
-    match answer {
-        ListAnswer::Filled(count) => count,
-        ListAnswer::Refused(_) => 0,
-    }
+    Ok(count)
 }
 
 // The list: an entry for each item of an accepted image, from the front of the lent list on; the rest stays. 43 where it is too short.
-pub fn list(format: Format, image: &[u8], kinds: Kinds, out: &mut [Entry]) -> ListAnswer
+pub fn list(format: Format, image: &[u8], kinds: Kinds, out: &mut [Entry]) -> Result<usize, Refusal>
     ensures { (result, out.new) ≡ list_of format kinds image.now out.old }
 {
-    let answer = list_answer(format, image, kinds, out.len());
-    let count = entry_count(answer);
+    let count = list_answer(format, image, kinds, out.len())?;
     let end = items_end(format, image);
     let mut at = first_place(format);
-    let mut i = 0;
-    while i < count {
+    for i in 0..count {
         out[i] = entry_at(format, image, kinds, at);
         at = go_on(format, image, end, at);
-        i = i + 1;
     }
-    answer
+    Ok(count)
 }

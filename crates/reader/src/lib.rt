@@ -8,7 +8,7 @@ ghost use Rattle.octets.specs.Bytes.{Octets};
 ghost use Rattle.reader.specs.Formats.{judged};
 
 use kinds::Kinds;
-use verdict::{Judged, Refusal};
+use verdict::Refusal;
 
 mod entries;
 mod items;
@@ -19,7 +19,7 @@ pub use entries::list;
 pub use items::item_numbered;
 pub use steps::{fresh, step, step_numbered};
 
-// The layout of an image.
+// The layout of an image. (A value: C gives it as a number, and the promises speak of any. A type parameter with a trait would be chosen by a match too.)
 #[derive(Clone, Copy)]
 pub enum Format {
     Tiny,
@@ -27,7 +27,7 @@ pub enum Format {
 }
 
 // One item of the list: its kind (the tag, or the eight bytes of the signature as the number they spell, the first lowest), the place of its first byte, its
-// data length, and whether it is known.
+// data length, and whether it is known. (C reads it: so the kind is a number.)
 #[repr(C)]
 #[derive(Clone, Copy)]
 pub struct Entry {
@@ -37,13 +37,6 @@ pub struct Entry {
     pub known: bool,
 }
 
-// What is answered for the list: how many entries were filled.
-#[derive(Clone, Copy)]
-pub enum ListAnswer {
-    Filled(usize),
-    Refused(Refusal),
-}
-
 // An item as its format shows it.
 #[derive(Clone, Copy)]
 pub enum Item {
@@ -51,23 +44,17 @@ pub enum Item {
     Board(board::ShownItem),
 }
 
-// What is answered for an item by its number.
-#[derive(Clone, Copy)]
-pub enum ItemAnswer {
-    Shown(Item),
-    Refused(Refusal),
-}
-
 // How far a walk is: the verdict on its image, the pool that its items' strings lie in, where the items end, and the place of the next item, or that end.
 #[derive(Clone, Copy)]
 pub struct Position {
-    pub verdict: Judged,
+    pub verdict: Result<usize, Refusal>,
     pub pool: tiny_layout::Pool,
     pub end: u32,
     pub at: u32,
 }
 
-// What a step shows: an item, that none is left, or the image's refusal. A walk that has not stepped shows nothing.
+// What a step shows: an item, that none is left, or the image's refusal. A walk that has not stepped shows nothing. (Four cases: a Result and two Options,
+// one in the other, would name none of them.)
 #[derive(Clone, Copy)]
 pub enum StepAnswer {
     Nothing,
@@ -88,7 +75,7 @@ pub struct Walk<'a> {
 
 // Whether an image is accepted by a reader with this list, and how many items it has; or the refusal. What is lent is of bytes: so much of every image that is
 // asked about is known without a premise.
-pub fn judge(format: Format, image: &[u8], kinds: Kinds) -> Judged
+pub fn judge(format: Format, image: &[u8], kinds: Kinds) -> Result<usize, Refusal>
     ensures { (result ≡ judged format kinds image.now) × Octets image.now }
 {
     match format {

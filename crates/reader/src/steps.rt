@@ -8,7 +8,7 @@ use super::layout::{first_place, go_on, items_end};
 use super::{Format, Item, Position, StepAnswer, Walk, judge};
 use kinds::Kinds;
 use tiny_layout::Pool;
-use verdict::Judged;
+use verdict::Refusal;
 
 // Where a walk begins. The image is judged here, and its pool and the end of its items are found: once for all steps.
 fn first_position(format: Format, image: &[u8], kinds: Kinds) -> Position
@@ -36,12 +36,9 @@ fn item_at(format: Format, image: &[u8], kinds: Kinds, pool: Pool, at: u32) -> I
 fn moved(format: Format, image: &[u8], position: Position) -> u32
     ensures { result ≡ moved format image.now position }
 {
-    let at = position.at;
-    let end = position.end;
-    let verdict = position.verdict;
-    match verdict {
-        Judged::Accepted(_) => go_on(format, image, end, at),
-        Judged::Refused(_) => at,
+    match position.verdict {
+        Ok(_) => go_on(format, image, position.end, position.at),
+        Err(_) => position.at,
     }
 }
 
@@ -49,17 +46,12 @@ fn moved(format: Format, image: &[u8], position: Position) -> u32
 fn shown(format: Format, image: &[u8], kinds: Kinds, position: Position) -> StepAnswer
     ensures { result ≡ shown format kinds image.now position }
 {
-    let at = position.at;
-    let pool = position.pool;
-    let verdict = position.verdict;
-    match verdict {
-        Judged::Accepted(_) => {
-            if at < position.end {
-                return StepAnswer::Shown(item_at(format, image, kinds, pool, at));
-            }
-            StepAnswer::NoneLeft
+    match position.verdict {
+        Ok(_) if position.at < position.end => {
+            StepAnswer::Shown(item_at(format, image, kinds, position.pool, position.at))
         }
-        Judged::Refused(refusal) => StepAnswer::Refused(refusal),
+        Ok(_) => StepAnswer::NoneLeft,
+        Err(refusal) => StepAnswer::Refused(refusal),
     }
 }
 
@@ -80,33 +72,24 @@ pub fn fresh<'a>(format: Format, image: &'a [u8], kinds: Kinds) -> Walk<'a>
 pub fn step<'a>(walk: Walk<'a>) -> Walk<'a>
     ensures { result ≡ stepped walk.entry }
 {
-    let image = walk.image;
-    let format = walk.format;
-    let kinds = walk.kinds;
     let position = walk.position;
-    let mut after = position;
-    after.at = moved(format, image, position);
     Walk {
-        image,
-        format,
-        kinds,
-        position: after,
-        shows: shown(format, image, kinds, position),
+        position: Position {
+            at: moved(walk.format, walk.image, position),
+            ..position
+        },
+        shows: shown(walk.format, walk.image, walk.kinds, position),
+        ..walk
     }
 }
 
 // How many steps come before the one of a number; those past the last item all show the same, so no more than there are items.
-fn steps_due(verdict: Judged, number: usize) -> usize
+fn steps_due(verdict: Result<usize, Refusal>, number: usize) -> usize
     ensures { result ≡ steps_due verdict number }
 {
     match verdict {
-        Judged::Accepted(count) => {
-            if number < count {
-                return number;
-            }
-            count
-        }
-        Judged::Refused(_) => 0,
+        Ok(count) => number.min(count),
+        Err(_) => 0,
     }
 }
 
@@ -116,10 +99,8 @@ pub fn step_numbered(format: Format, image: &[u8], kinds: Kinds, number: usize) 
 {
     let mut walk = fresh(format, image, kinds);
     let due = steps_due(walk.position.verdict, number);
-    let mut i = 0;
-    while i <= due {
+    for _step in 0..due + 1 {
         walk = step(walk);
-        i = i + 1;
     }
     walk.shows
 }

@@ -12,27 +12,17 @@ ghost use Rattle.reader.specs.Values.{list_said};
 ghost use Rattle.reader.specs.Walk.{step_numbered};
 ghost use Rattle.reader_c.specs.Numbers.{format_of, item_place, step_number};
 
-use host::{refusal_number, value_number};
+use host::{answer_number, refusal_number, value_number};
 use kinds::Kinds;
-use reader::{Entry, Format, Item, ListAnswer, StepAnswer, list, step_numbered};
+use reader::{Entry, Format, Item, StepAnswer, list, step_numbered};
 
 // The format of a number: 0 for tiny images, any other for board images.
 fn format_of(number: u32) -> Format
     ensures { result ≡ format_of number }
 {
-    if number == 0 {
-        return Format::Tiny;
-    }
-    Format::Board
-}
-
-// The answer for the list as one number: the count, or the refusal.
-fn list_number(answer: ListAnswer) -> u64
-    ensures { result ≡ number (list_said answer) }
-{
-    match answer {
-        ListAnswer::Filled(count) => value_number(count),
-        ListAnswer::Refused(refusal) => refusal_number(refusal),
+    match number {
+        0 => Format::Tiny,
+        _ => Format::Board,
     }
 }
 
@@ -63,8 +53,7 @@ fn step_number(answer: StepAnswer) -> u64
 pub extern "C" fn reader_list(format: u32, image: &[u8], kinds: u32, out: &mut [Entry]) -> u64
     ensures { (result, out.new) ≡ numbered list_said (list_of (format_of format) (from_bits kinds) image.now out.old) }
 {
-    let answer = list(format_of(format), image, Kinds::from_bits(kinds), out);
-    list_number(answer)
+    answer_number(list(format_of(format), image, Kinds::from_bits(kinds), out))
 }
 
 // What the step of a number from a fresh walk shows, as one number.

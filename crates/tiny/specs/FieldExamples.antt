@@ -10,7 +10,6 @@ use Rattle.crc.specs.Crc8.{crc8, reduce, bring, bits_of, bits_of_all}
 use Rattle.kinds.specs.Kinds.{listed, all, full}
 use Rattle.octets.specs.Bytes.{le16}
 use Rattle.octets.specs.Label.{is_text}
-use Rattle.octets.specs.Runs.{six_at}
 use Rattle.tiny_layout.specs.Layout.{head_size, data_length, next}
 use Rattle.tiny_layout.specs.Pool.{pool}
 use Rattle.tiny_layout.specs.Strings.{split, texts, string_end, reference}
@@ -51,9 +50,9 @@ fields-shown : map (λ n. item_said image (item_numbered full image n)) (0 ∷ 1
         serial = text (0x53 ∷ 0x31 ∷ []);
         part = text (0x50 ∷ 0x32 ∷ []);
         major = 0x8C;
-        letters = record { first = 0x30; second = 0x4D };
+        letters = 0x30 ∷ 0x4D ∷ [];
         minor = 0x11;
-        characters = record { first = 0x43; second = 0x44 };
+        characters = 0x43 ∷ 0x44 ∷ [];
       });
     })
     ∷ says (record {
@@ -64,9 +63,9 @@ fields-shown : map (λ n. item_said image (item_numbered full image n)) (0 ∷ 1
         serial = text (0x53 ∷ 0x34 ∷ []);
         part = text (0x50 ∷ 0x33 ∷ []);
         major = 0x2A;
-        letters = record { first = 0x34; second = 0x32 };
+        letters = 0x34 ∷ 0x32 ∷ [];
         minor = 0x12;
-        characters = record { first = 0x45; second = 0x46 };
+        characters = 0x45 ∷ 0x46 ∷ [];
       });
     })
     ∷ says (record {
@@ -77,9 +76,9 @@ fields-shown : map (λ n. item_said image (item_numbered full image n)) (0 ∷ 1
         serial = text (0x53 ∷ 0x35 ∷ []);
         part = text (0x50 ∷ 0x36 ∷ []);
         major = 0x81;
-        letters = record { first = 0x30; second = 0x42 };
+        letters = 0x30 ∷ 0x42 ∷ [];
         minor = 0x13;
-        characters = record { first = 0x47; second = 0x48 };
+        characters = 0x47 ∷ 0x48 ∷ [];
       }) 0x1721;
     })
     ∷ says (record {
@@ -90,14 +89,14 @@ fields-shown : map (λ n. item_said image (item_numbered full image n)) (0 ∷ 1
         serial = text (0x53 ∷ 0x38 ∷ []);
         part = text (0x50 ∷ 0x37 ∷ []);
         major = 0x57;
-        letters = record { first = 0x38; second = 0x37 };
+        letters = 0x38 ∷ 0x37 ∷ [];
         minor = 0x14;
-        characters = record { first = 0x49; second = 0x4A };
+        characters = 0x49 ∷ 0x4A ∷ [];
       }) 0x1234;
     })
     ∷ says (record { kind = 0x01; place = 0x2E; length = 20; fields = values.pool 9 0x30 20 })
     ∷ []
-unfolding judged rule1 rule2 rule3 rule4 rule5 rule6 rule7 rule8 rule9 rule10 rule11 bad_index is_major bad_revision bad_batch item_numbered item_at identity_at batched_at pool_shown major_text first visit chain keep nth next head_size data_length pool split texts string_end reference shape_of tab le16 six_at crc8 reduce bring bits_of bits_of_all listed all is_text
+unfolding judged rule1 rule2 rule3 rule4 rule5 rule6 rule7 rule8 rule9 rule10 rule11 bad_index is_major bad_revision bad_batch item_numbered item_at identity_at batched_at pool_shown major_text first visit chain keep nth next head_size data_length pool split texts string_end reference shape_of tab le16 crc8 reduce bring bits_of bits_of_all listed all is_text
 fields-shown = refl
 
 -- what an index refers to: of the nine strings the second and the last, and none past them

@@ -1,9 +1,7 @@
 -- What is shown of an item. Paper 01, the table of tags; "An item not known shows only its kind, place and length." Assumes nothing.
-use Rattle.std.specs.Prelude.{ℕ, ◌+◌, ◌-◌, cond, List, length}
-use Rattle.chain.specs.declared.Found.TheVariants.{At}
+use Rattle.std.specs.Prelude.{ℕ, ◌+◌, ◌-◌, cond, List, [], ◌∷◌, length, Some}
 use Rattle.kinds.specs.declared.Kinds.{Kinds}
-use Rattle.octets.specs.Bytes.{byte, le16}
-use Rattle.octets.specs.Runs.{six_at}
+use Rattle.octets.specs.Bytes.{byte, le16, run}
 use Rattle.tiny_layout.specs.Layout.{data_length, data_at}
 use Rattle.tiny_layout.specs.Pool.{is_known, pool_at}
 use Rattle.tiny_layout.specs.Strings.{texts, reference}
@@ -24,7 +22,7 @@ identity_at s pool start =
       part = reference s pool (byte s (start + 1));
       major = byte s (start + 2);
       minor = byte s (start + 3);
-      characters = record { first = byte s (start + 4); second = byte s (start + 5) };
+      characters = byte s (start + 4) ∷ byte s (start + 5) ∷ [];
     }
 
 -- 80, 81: "as 61, but batch number (two bytes) at the end"
@@ -38,10 +36,10 @@ pool_shown s pool =
 
 -- the fields of the item at p, by the row of its tag; strings are those of the pool given
 abbrev pub fields_at : List ℕ → Pool → Shape → ℕ → Item
-fields_at s pool Shape.Pool p = Item.Pool (pool_shown s (pool_at s (At p)))
+fields_at s pool Shape.Pool p = Item.Pool (pool_shown s (pool_at s (Some p)))
 fields_at s pool Shape.Serial p = Item.Serial (reference s pool (byte s (data_at s p)))
 fields_at s pool Shape.Flags p = Item.Flags (byte s (data_at s p))
-fields_at s pool Shape.Address p = Item.Address (six_at s (data_at s p))
+fields_at s pool Shape.Address p = Item.Address (run s (data_at s p) 6)
 fields_at s pool Shape.Identity p = Item.Identity (identity_at s pool (data_at s p))
 fields_at s pool Shape.Batched p = Item.Batched (batched_at s pool (data_at s p))
 fields_at s pool Shape.Other p = Item.NotKnown

@@ -1,4 +1,5 @@
 -- The definitions that the contracts cite, the paper's cases, and examples. Assumes nothing.
+pub mod AnswerTypes
 pub mod Major
 pub mod Items
 pub mod Answers

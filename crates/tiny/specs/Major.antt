@@ -1,6 +1,5 @@
 -- A major as two characters. Paper 01: "Major 00h to 63h is '00' to '99'; 80h to 99h is '0A' to '0Z'." Assumes nothing.
-use Rattle.std.specs.Prelude.{ℕ, ◌+◌, ◌-◌, ◌/◌, ◌%◌, ◌≤◌, cond, ◌⊎◌, ◌≡◌, ltb}
-use Rattle.tiny.specs.declared.Two.{Two}
+use Rattle.std.specs.Prelude.{ℕ, ◌+◌, ◌-◌, ◌/◌, ◌%◌, ◌≤◌, cond, List, [], ◌∷◌, ◌⊎◌, ◌≡◌, ltb}
 
 -- the character of a digit, and the n-th letter, counted from 0
 abbrev pub digit : ℕ → ℕ
@@ -10,13 +9,10 @@ abbrev pub capital : ℕ → ℕ
 capital n = 0x41 + n
 
 -- two digits; or '0' and a letter. (Rule 11 says which majors are in range.)
-unfoldable pub major_text : ℕ → Two
-major_text m =
-    cond (ltb m 0x80) (record { first = digit (m / 10); second = digit (m % 10) })
-    (record { first = digit 0; second = capital (m - 0x80) })
+unfoldable pub major_text : ℕ → List ℕ
+major_text m = cond (ltb m 0x80) (digit (m / 10) ∷ digit (m % 10) ∷ []) (digit 0 ∷ capital (m - 0x80) ∷ [])
 
 -- the paper's sentence: a major in range and its two characters
-abbrev pub MajorShown : ℕ → Two → Type 0
+abbrev pub MajorShown : ℕ → List ℕ → Type 0
 MajorShown m x =
-    ((m ≤ 0x63) × (x.first ≡ digit (m / 10)) × (x.second ≡ digit (m % 10)))
-    ⊎ ((0x80 ≤ m) × (m ≤ 0x99) × (x.first ≡ digit 0) × (x.second ≡ capital (m - 0x80)))
+    ((m ≤ 0x63) × (x ≡ digit (m / 10) ∷ digit (m % 10) ∷ [])) ⊎ ((0x80 ≤ m) × (m ≤ 0x99) × (x ≡ digit 0 ∷ capital (m - 0x80) ∷ []))

@@ -22,7 +22,7 @@ identity_labelled x =
     ∷ ("part", string_value x.part)
     ∷ ("major", number x.major)
     ∷ ("minor", number x.minor)
-    ∷ ("characters", bytes (x.characters.first ∷ x.characters.second ∷ []))
+    ∷ ("characters", bytes x.characters)
     ∷ []
 
 abbrev pub labelled : FieldValues → List Field

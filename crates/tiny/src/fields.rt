@@ -1,30 +1,22 @@
 // What is shown of an item. These functions take any image and any place; of an accepted image, at the place of an item, they show what is there.
-ghost use Rattle.std.specs.Prelude.{◌≡◌, ◌<◌, drop};
-ghost use Rattle.chain.specs.declared.Found.{Found};
+ghost use Rattle.std.specs.Prelude.{◌≡◌, ◌<◌, drop, Some};
 ghost use Rattle.tiny_layout.specs.Pool.{pool_at};
 ghost use Rattle.tiny.specs.Items.{identity_at, batched_at, pool_shown, fields_at, item_at};
 ghost use Rattle.tiny.specs.Major.{major_text};
 
-use super::{Batched, Identity, Item, PoolShown, ShownItem, Two};
+use super::{Batched, Identity, Item, PoolShown, ShownItem};
 use kinds::Kinds;
-use octets::{Span, byte_at, byte_from, le16_at, six_at};
-use tiny_layout::{
-    Pool, Shape, data_length, find_string, head_size, pool_at, shape_of, string_count,
-};
+use octets::{Span, byte_at, byte_from, bytes_at, le16_at};
+use tiny_layout::{Pool, Shape, data_length, find_string, head_size, pool_at, string_count};
 
 // A major as two characters.
-pub fn major_text(m: u8) -> Two
+pub fn major_text(m: u8) -> [u8; 2]
     ensures { result ≡ major_text m }
 {
     if m < 0x80 {
-        return Two {
-            first: 0x30 + m / 10,
-            second: 0x30 + m % 10,
-        };
-    }
-    Two {
-        first: 0x30,
-        second: 0x41 + (m - 0x80),
+        [b'0' + m / 10, b'0' + m % 10]
+    } else {
+        [b'0', b'A' + (m - 0x80)]
     }
 }
 
@@ -37,10 +29,7 @@ fn identity_at(image: &[u8], pool: Pool, start: usize) -> Identity
         part: find_string(image, pool, byte_from(image, start, 1) as usize),
         major: byte_from(image, start, 2),
         minor: byte_from(image, start, 3),
-        characters: Two {
-            first: byte_from(image, start, 4),
-            second: byte_from(image, start, 5),
-        },
+        characters: [byte_from(image, start, 4), byte_from(image, start, 5)],
     }
 }
 
@@ -59,15 +48,12 @@ fn batched_at(image: &[u8], pool: Pool, start: usize) -> Batched
 fn part_from(image: &[u8], at: usize) -> &[u8]
     ensures { result.now ≡ drop at image.now }
 {
-    if at < image.len() {
-        return &image[at..];
-    }
-    &image[..0]
+    &image[at.min(image.len())..]
 }
 
 // What is shown of the pool at a place. Its strings are counted in the part of the image that begins with it: there its places fit in 16 bits.
 fn pool_shown(image: &[u8], at: u32) -> PoolShown
-    ensures { result ≡ pool_shown image.now (pool_at image.now (Found.At at)) }
+    ensures { result ≡ pool_shown image.now (pool_at image.now (Some at)) }
 {
     let place = at as usize;
     let part = part_from(image, place);
@@ -89,7 +75,7 @@ fn fields_at(image: &[u8], pool: Pool, shape: Shape, at: u32) -> Item
         Shape::Pool => Item::Pool(pool_shown(image, at)),
         Shape::Serial => Item::Serial(find_string(image, pool, byte_at(image, start) as usize)),
         Shape::Flags => Item::Flags(byte_at(image, start)),
-        Shape::Address => Item::Address(six_at(image, start)),
+        Shape::Address => Item::Address(bytes_at(image, start)),
         Shape::Identity => Item::Identity(identity_at(image, pool, start)),
         Shape::Batched => Item::Batched(batched_at(image, pool, start)),
         Shape::Other => Item::NotKnown,
@@ -101,19 +87,15 @@ pub fn item_at(image: &[u8], kinds: Kinds, pool: Pool, at: u32) -> ShownItem
     ensures { result ≡ item_at kinds image.now pool at }
 {
     let tag = byte_at(image, at as usize);
-    let length = data_length(image, at as usize) as usize;
-    if kinds.has_tag(tag) {
-        return ShownItem {
-            tag,
-            place: at as usize,
-            length,
-            item: fields_at(image, pool, shape_of(tag), at),
-        };
-    }
+    let item = if kinds.has_tag(tag) {
+        fields_at(image, pool, Shape::of(tag), at)
+    } else {
+        Item::NotKnown
+    };
     ShownItem {
         tag,
         place: at as usize,
-        length,
-        item: Item::NotKnown,
+        length: data_length(image, at as usize) as usize,
+        item,
     }
 }

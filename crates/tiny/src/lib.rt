@@ -8,24 +8,22 @@ ghost use Rattle.tiny.specs.Answers.{item_numbered, string_numbered, name_of};
 ghost use Rattle.tiny.specs.Texts.{ShowsTexts, text_numbered};
 ghost use Rattle.tiny.specs.Values.{string_said};
 
-use chain::Found;
 use kinds::Kinds;
-use octets::{Six, Span};
+use octets::Span;
 use tiny_layout::{Reference, item_place, string_at, string_place};
 use tiny_rules::{judge, pool_of};
-use verdict::{Judged, Refusal};
+use verdict::Refusal;
 
 mod fields;
 mod serial;
 
 pub use fields::{item_at, major_text};
 
-// Two characters.
-#[derive(Clone, Copy)]
-pub struct Two {
-    pub first: u8,
-    pub second: u8,
-}
+// 42: no item or string has the number.
+const NO_SUCH_NUMBER: Refusal = Refusal {
+    number: 42,
+    place: 0,
+};
 
 // What 61, 62, 80 and 81 say of a product.
 #[derive(Clone, Copy)]
@@ -34,7 +32,7 @@ pub struct Identity {
     pub part: Reference,
     pub major: u8,
     pub minor: u8,
-    pub characters: Two,
+    pub characters: [u8; 2],
 }
 
 // 80 and 81: and its batch.
@@ -51,13 +49,14 @@ pub struct PoolShown {
     pub bytes: Span,
 }
 
-// What an item shows beside its tag, place and length: the fields of a known one.
+// What an item shows beside its tag, place and length: the fields of a known one. (`NotKnown` is one of seven cases; an Option around the other six would
+// make two matches of one wherever it is read.)
 #[derive(Clone, Copy)]
 pub enum Item {
     Pool(PoolShown),
     Serial(Reference),
     Flags(u8),
-    Address(Six),
+    Address([u8; 6]),
     Identity(Identity),
     Batched(Batched),
     NotKnown,
@@ -72,79 +71,34 @@ pub struct ShownItem {
     pub item: Item,
 }
 
-// What is answered for an item by its number.
-#[derive(Clone, Copy)]
-pub enum ItemAnswer {
-    Shown(ShownItem),
-    Refused(Refusal),
-}
-
-// What is answered for a string by its number: where its text lies.
-#[derive(Clone, Copy)]
-pub enum StringAnswer {
-    Text(Span),
-    Undecodable,
-    Refused(Refusal),
-}
-
-// What is answered for the name: its length.
-#[derive(Clone, Copy)]
-pub enum NameAnswer {
-    Length(usize),
-    Refused(Refusal),
-}
-
 // The item of a number, counted from 0 in image order.
-pub fn item_numbered(image: &[u8], kinds: Kinds, number: usize) -> ItemAnswer
+pub fn item_numbered(image: &[u8], kinds: Kinds, number: usize) -> Result<ShownItem, Refusal>
     ensures answer { result ≡ item_numbered kinds image.now number }
     ensures texts { ShowsTexts kinds image.now result }
 {
-    let judgement = judge(image, kinds);
-    match judgement {
-        Judged::Refused(refusal) => ItemAnswer::Refused(refusal),
-        Judged::Accepted(_) => {
-            let Found::At(at) = item_place(image, number) else {
-                return ItemAnswer::Refused(Refusal {
-                    number: 42,
-                    place: 0,
-                });
-            };
-            ItemAnswer::Shown(item_at(image, kinds, pool_of(image, kinds), at as u32))
-        }
-    }
+    judge(image, kinds)?;
+    let at = item_place(image, number).ok_or(NO_SUCH_NUMBER)?;
+    Ok(item_at(image, kinds, pool_of(image, kinds), at as u32))
 }
 
 // The string of a number in the listed pool; undecodable for every number where 01 is not on the list.
-pub fn string_numbered(image: &[u8], kinds: Kinds, number: usize) -> StringAnswer
+pub fn string_numbered(image: &[u8], kinds: Kinds, number: usize) -> Result<Reference, Refusal>
     ensures answer { result ≡ string_numbered kinds image.now number }
     ensures text_said { string_said image.now result ≡ text_numbered kinds image.now number }
 {
-    let judgement = judge(image, kinds);
-    match judgement {
-        Judged::Refused(refusal) => StringAnswer::Refused(refusal),
-        Judged::Accepted(_) => {
-            if kinds.has_tag(0x01) {
-                let pool = pool_of(image, kinds);
-                let Found::At(at) = string_place(image, pool, number) else {
-                    return StringAnswer::Refused(Refusal {
-                        number: 42,
-                        place: 0,
-                    });
-                };
-                return StringAnswer::Text(string_at(image, pool.to, at));
-            }
-            StringAnswer::Undecodable
-        }
+    judge(image, kinds)?;
+    if !kinds.has_tag(0x01) {
+        return Ok(None);
     }
+    let pool = pool_of(image, kinds);
+    let at = string_place(image, pool, number).ok_or(NO_SUCH_NUMBER)?;
+    Ok(Some(string_at(image, pool.to, at)))
 }
 
 // The file name: the serial text of the only known item of tag 10, to the front of a lent buffer.
-pub fn name(image: &[u8], kinds: Kinds, buffer: &mut [u8]) -> NameAnswer
+pub fn name(image: &[u8], kinds: Kinds, buffer: &mut [u8]) -> Result<usize, Refusal>
     ensures { (result, buffer.new) ≡ name_of kinds image.now buffer.old }
 {
-    let judgement = judge(image, kinds);
-    match judgement {
-        Judged::Refused(refusal) => NameAnswer::Refused(refusal),
-        Judged::Accepted(_) => serial::name_in(image, kinds, buffer),
-    }
+    judge(image, kinds)?;
+    serial::name_in(image, kinds, buffer)
 }

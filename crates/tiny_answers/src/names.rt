@@ -1,49 +1,30 @@
 // The name, into buffers of several sizes.
 ghost use Rattle.std.specs.Prelude.{◌≤◌, length};
 
-use super::text::put_refusal;
-use console::{put, put_bytes, put_decimal};
-use kinds::Kinds;
+use super::answers::Answers;
+use console::show::Hex;
+use console::words::InNumbers;
 use std::io;
-use tiny::{NameAnswer, name};
+use tiny::name;
 
-fn put_answer(out: &impl Print, answer: NameAnswer) -> io::Result<()> {
-    match answer {
-        NameAnswer::Length(n) => {
-            put(out, b"length ")?;
-            put_decimal(out, n)
+impl<P: Print> Answers<'_, P> {
+    // The name with the first `size` bytes of a block lent, and what the block then holds.
+    fn put_name(&self, size: usize, block: &mut [u8]) -> io::Result<()>
+        requires { size ≤ length block.old }
+    {
+        print!(self.out; "name {size} ")?;
+        match name(self.image, self.kinds, &mut block[..size]) {
+            Ok(n) => print!(self.out; "length {n}")?,
+            Err(refusal) => print!(self.out; "refused {}", InNumbers(refusal))?,
         }
-        NameAnswer::Refused(refusal) => put_refusal(out, refusal),
+        println!(self.out; " {}", Hex(block))
     }
-}
 
-// The name with the first `size` bytes of a block lent, and what the block then holds.
-fn put_name(
-    out: &impl Print,
-    image: &[u8],
-    kinds: Kinds,
-    size: usize,
-    block: &mut [u8],
-) -> io::Result<()>
-    requires { size ≤ length block.old }
-{
-    put(out, b"name ")?;
-    put_decimal(out, size)?;
-    put(out, b" ")?;
-    put_answer(out, name(image, kinds, &mut block[..size]))?;
-    put(out, b" ")?;
-    put_bytes(out, block)?;
-    put(out, b"\n")
-}
-
-// Each time with a block of AAh.
-pub fn put_names(out: &impl Print, image: &[u8], kinds: Kinds) -> io::Result<()> {
-    let mut none = [0xAAu8; 8];
-    put_name(out, image, kinds, 0, &mut none)?;
-    let mut three = [0xAAu8; 8];
-    put_name(out, image, kinds, 3, &mut three)?;
-    let mut four = [0xAAu8; 8];
-    put_name(out, image, kinds, 4, &mut four)?;
-    let mut most = [0xAAu8; 255];
-    put_name(out, image, kinds, 255, &mut most)
+    // Each time with a block of AAh.
+    pub fn put_names(&self) -> io::Result<()> {
+        for size in [0, 3, 4] {
+            self.put_name(size, &mut [0xAAu8; 8])?;
+        }
+        self.put_name(255, &mut [0xAAu8; 255])
+    }
 }

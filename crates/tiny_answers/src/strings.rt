@@ -1,49 +1,40 @@
 // Strings by number.
-use super::text::{put_refusal, put_text};
+use super::answers::Answers;
+use super::text::shown;
 use console::far::{FAR, LAST};
-use console::{put, put_decimal};
-use kinds::Kinds;
+use console::words::InNumbers;
 use std::io;
-use tiny::{StringAnswer, string_numbered};
+use tiny::string_numbered;
 use tiny_layout::string_count;
 use tiny_rules::{judge, pool_of};
-use verdict::Judged;
 
-fn put_string(out: &impl Print, image: &[u8], kinds: Kinds, number: usize) -> io::Result<()> {
-    put(out, b"string ")?;
-    put_decimal(out, number)?;
-    put(out, b" ")?;
-    let answer = string_numbered(image, kinds, number);
-    match answer {
-        StringAnswer::Text(span) => put_text(out, image, span)?,
-        StringAnswer::Undecodable => put(out, b"undecodable")?,
-        StringAnswer::Refused(refusal) => put_refusal(out, refusal)?,
+impl<P: Print> Answers<'_, P> {
+    fn put_string(&self, number: usize) -> io::Result<()> {
+        print!(self.out; "string {number} ")?;
+        match string_numbered(self.image, self.kinds, number) {
+            Ok(reference) => println!(self.out; "{}", shown(self.image, reference)),
+            Err(refusal) => println!(self.out; "refused {}", InNumbers(refusal)),
+        }
     }
-    put(out, b"\n")
-}
 
-// The string count of the listed pool; 0 of a refused image.
-fn count_of(image: &[u8], kinds: Kinds) -> usize {
-    let judgement = judge(image, kinds);
-    match judgement {
-        Judged::Accepted(_) => string_count(image, pool_of(image, kinds)),
-        Judged::Refused(_) => 0,
+    // The string count of the listed pool; 0 of a refused image.
+    fn count_strings(&self) -> usize {
+        match judge(self.image, self.kinds) {
+            Ok(_) => string_count(self.image, pool_of(self.image, self.kinds)),
+            Err(_) => 0,
+        }
     }
-}
 
-// The strings from 0 to the string count, one past it, and at two numbers far past it.
-pub fn put_strings(out: &impl Print, image: &[u8], kinds: Kinds) -> io::Result<()> {
-    let count = count_of(image, kinds);
-    let mut i = 0;
-    while i < count {
-        put_string(out, image, kinds, i)?;
-        i += 1;
+    // The strings from 0 to the string count, one past it, and at two numbers far past it.
+    pub fn put_strings(&self) -> io::Result<()> {
+        let count = self.count_strings();
+        for number in 0..count {
+            self.put_string(number)?;
+        }
+        // (A pool has at most 255 bytes, so nothing is cut off here.)
+        for number in [count, count.saturating_add(1), FAR, LAST] {
+            self.put_string(number)?;
+        }
+        Ok(())
     }
-    put_string(out, image, kinds, i)?;
-    // (A pool has at most 255 bytes, so it has fewer strings than 65,536.)
-    if i < 65536 {
-        put_string(out, image, kinds, i + 1)?;
-    }
-    put_string(out, image, kinds, FAR)?;
-    put_string(out, image, kinds, LAST)
 }

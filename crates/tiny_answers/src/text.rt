@@ -1,24 +1,23 @@
-// Texts and refusals on standard output.
-use console::{put, put_decimal, put_hex};
-use octets::{Span, byte_from};
-use std::io;
-use verdict::Refusal;
+// Strings, as they are shown.
+use console::show::{OrUndecodable, Text};
+use octets::Span;
+use std::fmt;
 
-// The bytes of a text, the end mark cleared.
-pub fn put_text(out: &impl Print, image: &[u8], span: Span) -> io::Result<()> {
-    put(out, b"text ")?;
-    let mut i = 0;
-    while i < span.length {
-        put_hex(out, byte_from(image, span.place, i) % 128)?;
-        i += 1;
+// A string of an image: two hexadecimal digits for each character.
+#[derive(Clone, Copy)]
+pub struct HexText<'a>(Text<'a>);
+
+impl fmt::Display for HexText<'_> {
+    fn fmt<W: fmt::Write>(&self, f: &mut fmt::Formatter<W>) -> fmt::Result {
+        f.write_str("text ")?;
+        for number in 0..self.0.span.length {
+            write!(f, "{:02X}", self.0.character(number))?;
+        }
+        Ok(())
     }
-    Ok(())
 }
 
-// A refusal's number and place.
-pub fn put_refusal(out: &impl Print, refusal: Refusal) -> io::Result<()> {
-    put(out, b"refused ")?;
-    put_decimal(out, refusal.number as usize)?;
-    put(out, b" ")?;
-    put_decimal(out, refusal.place)
+// What a reference gives.
+pub fn shown(image: &[u8], reference: Option<Span>) -> OrUndecodable<HexText<'_>> {
+    OrUndecodable(reference.map(|span| HexText(Text { image, span })))
 }

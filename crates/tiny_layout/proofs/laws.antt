@@ -3,7 +3,6 @@
 pub mod Layout
 pub mod Strings
 pub mod Texts
-pub mod Along
 pub mod Tags
 pub mod Tables
 pub mod Pool

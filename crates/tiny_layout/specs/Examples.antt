@@ -1,5 +1,5 @@
 -- What the definitions give on small images, by computation: items, the pool, its texts and references to them. Assumes nothing.
-use Rattle.std.specs.Prelude.{ℕ, List, [], ◌∷◌, map, ◌≡◌, refl}
+use Rattle.std.specs.Prelude.{ℕ, List, [], ◌∷◌, map, ◌≡◌, refl, Some, None}
 use Rattle.chain.specs.Chain.{visit, chain}
 use Rattle.chain.specs.Fill.{tab}
 use Rattle.chain.specs.First.{first}
@@ -8,7 +8,6 @@ use Rattle.kinds.specs.Kinds.{listed, all, full, bare}
 use Rattle.tiny_layout.specs.Layout.{head_size, data_length, next, items}
 use Rattle.tiny_layout.specs.Pool.{pool}
 use Rattle.tiny_layout.specs.Strings.{split, texts, string_end, strings, text_of, reference}
-use Rattle.tiny_layout.specs.declared.Reference.TheVariants.{Text, Undecodable}
 
 -- the size of an item by its tag: the tag byte, and as many data bytes as its high four bits say
 sizes : map (λ tag. next (tag ∷ []) 0) (0x10 ∷ 0x60 ∷ 0x81 ∷ []) ≡ 2 ∷ 7 ∷ 9 ∷ []
@@ -37,7 +36,7 @@ bare-pool : pool bare image ≡ record { from = 0; to = 0 }
 unfolding pool listed all next head_size data_length first chain visit
 bare-pool = refl
 
-bare-reference : reference image (record { from = 0; to = 0 }) 0 ≡ Undecodable
+bare-reference : reference image (record { from = 0; to = 0 }) 0 ≡ None
 unfolding reference string_end nth first chain visit
 bare-reference = refl
 
@@ -50,7 +49,7 @@ one-text : texts image (record { from = 7; to = 11 }) ≡ (0x74 ∷ 0x6F ∷ 0x7
 unfolding texts split tab
 one-text = refl
 
-string-0 : reference image (record { from = 7; to = 11 }) 0 ≡ Text (record { place = 7; length = 4 })
+string-0 : reference image (record { from = 7; to = 11 }) 0 ≡ Some (record { place = 7; length = 4 })
 unfolding reference string_end nth first chain visit
 string-0 = refl
 
@@ -58,7 +57,7 @@ text-0 : text_of image (record { place = 7; length = 4 }) ≡ 0x74 ∷ 0x6F ∷ 
 unfolding tab
 text-0 = refl
 
-string-1 : reference image (record { from = 7; to = 11 }) 1 ≡ Undecodable
+string-1 : reference image (record { from = 7; to = 11 }) 1 ≡ None
 unfolding reference string_end nth first chain visit
 string-1 = refl
 

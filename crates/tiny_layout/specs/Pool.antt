@@ -1,9 +1,8 @@
 -- Items that a reader knows, and the pool that it uses: the data of the first item of tag 01, where 01 is on its list. (Rule 8 refuses a second one.)
 -- Assumes nothing.
-use Rattle.std.specs.Prelude.{ℕ, Bool, ◌&&◌, List, eqb}
+use Rattle.std.specs.Prelude.{ℕ, Bool, ◌&&◌, List, eqb, Some, None}
 use Rattle.chain.specs.First.{first, when}
-use Rattle.chain.specs.declared.Found.{Found}
-use Rattle.chain.specs.declared.Found.TheVariants.{At, Nothing}
+use Rattle.chain.specs.Found.{Found}
 use Rattle.kinds.specs.Kinds.{listed}
 use Rattle.kinds.specs.declared.Kind.TheVariants.{Tag}
 use Rattle.kinds.specs.declared.Kinds.{Kinds}
@@ -29,8 +28,8 @@ pool_place k s = first (known_of k s 0x01) (items s)
 
 -- the data of the item found: from their first byte up to their end; an empty stretch without one
 abbrev pub pool_at : List ℕ → Found → Pool
-pool_at s (At p) = record { from = data_at s p; to = next s p }
-pool_at s Nothing = record { from = 0; to = 0 }
+pool_at s (Some p) = record { from = data_at s p; to = next s p }
+pool_at s None = record { from = 0; to = 0 }
 
 -- the data of the listed pool
 unfoldable pub pool : Kinds → List ℕ → Pool

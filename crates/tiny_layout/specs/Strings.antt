@@ -1,17 +1,15 @@
 -- The strings of a pool. Paper 01: "strings end to end, top bit set on each last byte; may be empty (no strings)". "String 0 is the first."
 -- `texts` splits the data into the texts themselves; `strings` says where each one lies, and `laws/Texts` ties the two. Assumes nothing.
-use Rattle.std.specs.Prelude.{ℕ, ◌+◌, ◌-◌, ◌%◌, max, Bool, cond, List, [], ◌∷◌, leb}
+use Rattle.std.specs.Prelude.{ℕ, ◌+◌, ◌-◌, ◌%◌, max, Bool, cond, List, [], ◌∷◌, leb, Some, None}
 use Rattle.chain.specs.Chain.{chain, range}
 use Rattle.chain.specs.Fill.{tab}
 use Rattle.chain.specs.First.{first, when}
 use Rattle.chain.specs.Nth.{nth}
-use Rattle.chain.specs.declared.Found.{Found}
-use Rattle.chain.specs.declared.Found.TheVariants.{At, Nothing}
+use Rattle.chain.specs.Found.{Found}
 use Rattle.octets.specs.Bytes.{byte, run}
 use Rattle.octets.specs.declared.Span.{Span}
 use Rattle.tiny_layout.specs.declared.Pool.{Pool}
-use Rattle.tiny_layout.specs.declared.Reference.{Reference}
-use Rattle.tiny_layout.specs.declared.Reference.TheVariants.{Text, Undecodable}
+use Rattle.tiny_layout.specs.Reference.{Reference}
 
 -- the end mark: the top bit
 abbrev pub is_marked : ℕ → Bool
@@ -45,8 +43,8 @@ mark s p = when (is_marked (byte s p)) p
 
 -- past the marked byte; without one, the pool's end. (Past that, one place on: places grow.)
 abbrev pub past_mark : ℕ → ℕ → Found → ℕ
-past_mark to p (At q) = q + 1
-past_mark to p Nothing = max to (p + 1)
+past_mark to p (Some q) = q + 1
+past_mark to p None = max to (p + 1)
 
 -- where the string at p ends, in a pool that ends at `to`
 unfoldable pub string_end : List ℕ → ℕ → ℕ → ℕ
@@ -68,8 +66,8 @@ text_of s span = tab (λ i. letter (byte s (span.place + i))) span.length
 
 -- the string at the place found; undecodable without one
 abbrev pub reference_at : List ℕ → Pool → Found → Reference
-reference_at s pool (At p) = Text (span_at s pool.to p)
-reference_at s pool Nothing = Undecodable
+reference_at s pool (Some p) = Some (span_at s pool.to p)
+reference_at s pool None = None
 
 -- what an index n refers to in a pool: the string of that number; undecodable where the pool has none. In an accepted image that is exactly where 01
 -- is not on the list: then the pool is empty, and else rule 10 refuses such an index

@@ -3,17 +3,14 @@
 
 #![tactic(auto)]
 
-ghost use Rattle.std.specs.Prelude.{◌≡◌, ◌<◌, length};
-ghost use Rattle.chain.specs.Chain.{chain};
+ghost use Rattle.std.specs.Prelude.{◌≡◌, ◌<◌, length, Some};
 ghost use Rattle.chain.specs.Nth.{nth};
-ghost use Rattle.tiny_layout.specs.Layout.{head_size, data_length, size, check_place, items};
-ghost use Rattle.chain.specs.declared.Found.{Found};
+ghost use Rattle.tiny_layout.specs.Layout.{head_size, data_length, size, next, check_place, items};
 ghost use Rattle.tiny_layout.specs.Pool.{pool_at};
 ghost use Rattle.tiny_layout.specs.Strings.{string_end, strings, texts, span_at, reference};
 ghost use Rattle.tiny_layout.specs.Tags.{shape_of, index_count};
-ghost use Rattle.tiny_layout.specs.Along.{following};
 
-use chain::Found;
+use chain::{count_along, place_of};
 use octets::{Span, byte_at, byte_from};
 
 // What the data of an item are: a row of the paper's table.
@@ -35,49 +32,36 @@ pub struct Pool {
     pub to: u16,
 }
 
-// A reference to a string: its text, by where it lies in the image, or undecodable.
-#[derive(Clone, Copy)]
-pub enum Reference {
-    Text(Span),
-    Undecodable,
-}
+// A reference to a string: its text, by where it lies in the image, or none where it is undecodable.
+pub type Reference = Option<Span>;
 
-// What lies end to end: the items of an image, or the strings of a pool.
-#[derive(Clone, Copy)]
-pub enum Along {
-    Items,
-    Strings,
-}
-
-// The shape of a tag's data.
-pub fn shape_of(tag: u8) -> Shape
-    ensures { result ≡ shape_of tag }
-{
-    match tag {
-        0x01 => Shape::Pool,
-        0x10 => Shape::Serial,
-        0x11 => Shape::Flags,
-        0x60 => Shape::Address,
-        0x61 => Shape::Identity,
-        0x62 => Shape::Identity,
-        0x80 => Shape::Batched,
-        0x81 => Shape::Batched,
-        _ => Shape::Other,
+impl Shape {
+    // The shape of a tag's data.
+    pub fn of(tag: u8) -> Shape
+        ensures { result ≡ shape_of tag }
+    {
+        match tag {
+            0x01 => Shape::Pool,
+            0x10 => Shape::Serial,
+            0x11 => Shape::Flags,
+            0x60 => Shape::Address,
+            0x61 => Shape::Identity,
+            0x62 => Shape::Identity,
+            0x80 => Shape::Batched,
+            0x81 => Shape::Batched,
+            _ => Shape::Other,
+        }
     }
-}
 
-// How many string indexes the data begin with.
-pub fn index_count(shape: Shape) -> u8
-    ensures { result ≡ index_count shape }
-{
-    match shape {
-        Shape::Pool => 0,
-        Shape::Serial => 1,
-        Shape::Flags => 0,
-        Shape::Address => 0,
-        Shape::Identity => 2,
-        Shape::Batched => 2,
-        Shape::Other => 0,
+    // How many string indexes the data begin with.
+    pub fn index_count(self) -> u8
+        ensures { result ≡ index_count self }
+    {
+        match self {
+            Shape::Serial => 1,
+            Shape::Identity | Shape::Batched => 2,
+            Shape::Pool | Shape::Flags | Shape::Address | Shape::Other => 0,
+        }
     }
 }
 
@@ -92,11 +76,10 @@ pub fn head_size(tag: u8) -> u8
 pub fn data_length(image: &[u8], at: usize) -> u8
     ensures { result ≡ data_length image.now at }
 {
-    let n = byte_at(image, at) / 16;
-    if n == 0 {
-        return byte_from(image, at, 1);
+    match byte_at(image, at) / 16 {
+        0 => byte_from(image, at, 1),
+        n => n,
     }
-    n
 }
 
 // How many bytes the item at a place has.
@@ -110,20 +93,23 @@ pub fn item_size(image: &[u8], at: usize) -> u16
 pub fn check_place(image: &[u8]) -> u8
     ensures { result ≡ check_place image.now }
 {
-    let length = byte_at(image, 2);
-    if length == 0 {
-        return 0;
-    }
-    length - 1
+    byte_at(image, 2).saturating_sub(1)
+}
+
+// Where the item at a place ends, and the next one starts.
+pub fn next_place(image: &[u8], at: u8) -> u16
+    ensures { result ≡ next image.now at }
+{
+    at as u16 + item_size(image, at as usize)
 }
 
 // The data of the item at a place, as a pool.
 pub fn pool_at(image: &[u8], at: u8) -> Pool
-    ensures { result ≡ pool_at image.now (Found.At at) }
+    ensures { result ≡ pool_at image.now (Some at) }
 {
     Pool {
         from: at as u16 + head_size(byte_at(image, at as usize)) as u16,
-        to: at as u16 + item_size(image, at as usize),
+        to: next_place(image, at),
     }
 }
 
@@ -132,48 +118,24 @@ fn string_end(image: &[u8], to: u16, from: usize) -> usize
     requires { from < to }
     ensures { result ≡ string_end image.now to from }
 {
-    let mut at = from;
-    while at < to as usize {
+    for at in from..to as usize {
         if 128 <= byte_at(image, at) {
             return at + 1;
         }
-        at += 1;
     }
     to as usize
 }
 
-// Where the next item, or the next string, starts.
-fn next_place(along: Along, image: &[u8], end: u16, at: usize) -> usize
-    requires { at < end }
-    ensures { result ≡ following along image.now end at }
-{
-    match along {
-        Along::Items => at + item_size(image, at) as usize,
-        Along::Strings => string_end(image, end, at),
-    }
-}
-
-// The place of an item, or of a string, by its number.
-fn place_of(along: Along, image: &[u8], from: usize, end: u16, number: usize) -> Found
-    ensures { result ≡ nth (chain (following along image.now end) end from) number }
-{
-    let mut at = from;
-    let mut left = number;
-    while at < end as usize {
-        if left == 0 {
-            return Found::At(at);
-        }
-        left -= 1;
-        at = next_place(along, image, end, at);
-    }
-    Found::Nothing
-}
-
 // The place of the item of a number.
-pub fn item_place(image: &[u8], number: usize) -> Found
+pub fn item_place(image: &[u8], number: usize) -> Option<usize>
     ensures { result ≡ nth (items image.now) number }
 {
-    place_of(Along::Items, image, 3, check_place(image) as u16, number)
+    place_of(
+        |at| next_place(image, at as u8) as usize,
+        3,
+        check_place(image) as usize,
+        number,
+    )
 }
 
 // How many strings a pool has.
@@ -181,20 +143,24 @@ pub fn string_count(image: &[u8], pool: Pool) -> usize
     ensures { result ≡ length (texts image.now pool) }
 {
     let end = pool.to;
-    let mut at = pool.from as usize;
-    let mut n = 0;
-    while at < end as usize {
-        n += 1;
-        at = string_end(image, end, at);
-    }
-    n
+    count_along(
+        |at| string_end(image, end, at),
+        pool.from as usize,
+        end as usize,
+    )
 }
 
 // The place of the string of a number.
-pub fn string_place(image: &[u8], pool: Pool, number: usize) -> Found
+pub fn string_place(image: &[u8], pool: Pool, number: usize) -> Option<usize>
     ensures { result ≡ nth (strings image.now pool) number }
 {
-    place_of(Along::Strings, image, pool.from as usize, pool.to, number)
+    let end = pool.to;
+    place_of(
+        |at| string_end(image, end, at),
+        pool.from as usize,
+        end as usize,
+        number,
+    )
 }
 
 // Where the string at a place of a pool lies; the pool ends at `to`. (Past it, one byte.)
@@ -217,8 +183,6 @@ pub fn string_at(image: &[u8], to: u16, at: usize) -> Span
 pub fn find_string(image: &[u8], pool: Pool, number: usize) -> Reference
     ensures { result ≡ reference image.now pool number }
 {
-    let Found::At(at) = string_place(image, pool, number) else {
-        return Reference::Undecodable;
-    };
-    Reference::Text(string_at(image, pool.to, at))
+    let at = string_place(image, pool, number)?;
+    Some(string_at(image, pool.to, at))
 }

@@ -1,41 +1,36 @@
-// The fields of an item, as text.
-use super::text::{put_text, put_two};
-use console::{put, put_character, put_quoted};
-use std::io;
+// What an item of a few bytes says, as text.
+use console::show::{OrUndecodable, Quoted, Text};
+use octets::Span;
+use std::fmt;
 use tiny::{Identity, major_text};
-use tiny_layout::Reference;
 
 // A reference: its text, or that it is undecodable.
-pub fn put_reference(out: &impl Print, image: &[u8], reference: Reference) -> io::Result<()> {
-    match reference {
-        Reference::Text(span) => put_text(out, image, span),
-        Reference::Undecodable => put(out, b"undecodable"),
+pub fn shown(image: &[u8], reference: Option<Span>) -> OrUndecodable<Text<'_>> {
+    OrUndecodable(reference.map(|span| Text { image, span }))
+}
+
+// Serial, part, major, minor and the two characters of an item of an image.
+#[derive(Clone, Copy)]
+pub struct Product<'a> {
+    pub image: &'a [u8],
+    pub identity: Identity,
+}
+
+impl fmt::Display for Product<'_> {
+    fn fmt<W: fmt::Write>(&self, f: &mut fmt::Formatter<W>) -> fmt::Result {
+        let identity = self.identity;
+        let serial = shown(self.image, identity.serial);
+        let part = shown(self.image, identity.part);
+        write!(f, "identity serial {serial} part {part}")?;
+        let [tens, ones] = major_text(identity.major);
+        write!(f, " major {}{}", tens as char, ones as char)?;
+        let minor = identity.minor;
+        let [first, second] = identity.characters;
+        write!(
+            f,
+            " minor {minor:02} characters \"{}{}\"",
+            Quoted(first),
+            Quoted(second)
+        )
     }
-}
-
-// Serial, part, major, minor and the two characters.
-pub fn put_identity(out: &impl Print, image: &[u8], identity: Identity) -> io::Result<()> {
-    let serial = identity.serial;
-    let part = identity.part;
-    put(out, b"identity serial ")?;
-    put_reference(out, image, serial)?;
-    put(out, b" part ")?;
-    put_reference(out, image, part)?;
-    put(out, b" major ")?;
-    let major = major_text(identity.major);
-    put_character(out, major.first)?;
-    put_character(out, major.second)?;
-    put(out, b" minor ")?;
-    put_two(out, identity.minor as u16)?;
-    put(out, b" characters \"")?;
-    put_quoted(out, identity.characters.first)?;
-    put_quoted(out, identity.characters.second)?;
-    put(out, b"\"")
-}
-
-// A batch, four digits.
-pub fn put_batch(out: &impl Print, batch: u16) -> io::Result<()> {
-    put(out, b" batch ")?;
-    put_two(out, batch / 100)?;
-    put_two(out, batch % 100)
 }

@@ -1,4 +1,3 @@
 -- What several proofs share, laws, and examples that cite laws. Assumes nothing.
 pub mod BrokenExamples
-pub mod Check
 pub mod laws

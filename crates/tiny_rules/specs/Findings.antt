@@ -1,7 +1,6 @@
 -- What the code's one walk along the items reads, notes and finds. A reader of the rules may skip this. Assumes nothing.
-use Rattle.std.specs.Prelude.{ℕ, ◌+◌, ◌≤◌, ◌<◌, List, ◌≡◌, length}
+use Rattle.std.specs.Prelude.{ℕ, ◌+◌, ◌≤◌, ◌<◌, List, ◌≡◌, length, None}
 use Rattle.chain.specs.First.{first, or_else}
-use Rattle.chain.specs.declared.Found.TheVariants.{Nothing}
 use Rattle.kinds.specs.declared.Kinds.{Kinds}
 use Rattle.octets.specs.Bytes.{byte}
 use Rattle.tiny_layout.specs.Layout.{check_place, data_at, next, items}
@@ -12,12 +11,12 @@ use Rattle.tiny_rules.specs.declared.walk.Head.{Head}
 
 -- the head of the item at p
 abbrev pub head_at : List ℕ → ℕ → Head
-head_at s p = record { tag = byte s p; start = data_at s p; after = next s p }
+head_at s p = record { place = p; tag = byte s p; start = data_at s p; after = next s p }
 
--- `end` is the check byte's place, and `head` the head of the item at p
-pub record Seen (s : List ℕ) (end p : ℕ) (head : Head) : Type 0 where
+-- `end` is the check byte's place, and `head` the head of the item at its place
+pub record Seen (s : List ℕ) (end : ℕ) (head : Head) : Type 0 where
   pub all : end ≡ check_place s
-  pub here : head ≡ head_at s p
+  pub here : head ≡ head_at s head.place
 
 -- r is at least `least`, and above each byte from place `from` up to `to`
 pub record Above (s : List ℕ) (least from to r : ℕ) : Type 0 where
@@ -26,10 +25,10 @@ pub record Above (s : List ℕ) (least from to r : ℕ) : Type 0 where
 
 -- rule 10 is not broken by the item at p, nor by any item, if there are r strings or more
 abbrev pub AboveAt : Kinds → List ℕ → ℕ → ℕ → Type 0
-AboveAt k s p r = (n : ℕ) → r ≤ n → on_known k s (bad_index s n) p ≡ Nothing
+AboveAt k s p r = (n : ℕ) → r ≤ n → on_known k s (bad_index s n) p ≡ None
 
 abbrev pub AboveAll : Kinds → List ℕ → ℕ → Type 0
-AboveAll k s r = (n : ℕ) → r ≤ n → first (on_known k s (bad_index s n)) (items s) ≡ Nothing
+AboveAll k s r = (n : ℕ) → r ≤ n → first (on_known k s (bad_index s n)) (items s) ≡ None
 
 -- g is what was found before the item at p, in f, or else is found there
 pub record Noted (k : Kinds) (s : List ℕ) (p : ℕ) (f g : Findings) : Type 0 where

@@ -1,12 +1,11 @@
 -- The judge of tiny images: the table of rules in its order. Nothing else decides acceptance. Assumes nothing.
-use Rattle.std.specs.Prelude.{ℕ, List, [], ◌∷◌, length}
-use Rattle.chain.specs.declared.Found.{Found}
+use Rattle.std.specs.Prelude.{ℕ, List, [], ◌∷◌, length, Ok}
+use Rattle.chain.specs.Found.{Found}
 use Rattle.kinds.specs.declared.Kinds.{Kinds}
 use Rattle.tiny_layout.specs.Layout.{items}
 use Rattle.tiny_rules.specs.Rules.{rule1, rule2, rule3, rule4, rule5, rule6, rule7, rule8, rule9, rule10, rule11}
 use Rattle.verdict.specs.Verdict.{answer}
-use Rattle.verdict.specs.declared.Judged.{Judged}
-use Rattle.verdict.specs.declared.Judged.TheVariants.{Accepted}
+use Rattle.verdict.specs.Answers.{Judged}
 
 -- the table: each rule with its number
 abbrev pub rules : Kinds → List ℕ → List (ℕ × Found)
@@ -26,4 +25,4 @@ rules k s =
 
 -- the refusal by the first rule that is broken, or accepted with the count of items
 unfoldable pub judged : Kinds → List ℕ → Judged
-judged k s = answer (rules k s) (Accepted (length (items s)))
+judged k s = answer (rules k s) (Ok (length (items s)))

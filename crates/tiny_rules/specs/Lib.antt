@@ -2,6 +2,5 @@
 pub mod Rules
 pub mod Judged
 pub mod Broken
-pub mod Tests
 pub mod Findings
 pub mod Examples

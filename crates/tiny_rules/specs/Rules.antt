@@ -1,9 +1,8 @@
 -- Rules 1 to 11, each as the smallest place where it is broken. Paper 01, "Refusal numbers and their order". Assumes nothing.
-use Rattle.std.specs.Prelude.{ℕ, ◌+◌, Bool, not, cond, ◌&&◌, ◌||◌, List, eqb, ltb, leb, length, take}
+use Rattle.std.specs.Prelude.{ℕ, ◌+◌, Bool, not, cond, ◌&&◌, ◌||◌, List, eqb, ltb, leb, length, take, None}
 use Rattle.chain.specs.Chain.{range}
 use Rattle.chain.specs.First.{first, when, or_else}
-use Rattle.chain.specs.declared.Found.{Found}
-use Rattle.chain.specs.declared.Found.TheVariants.{Nothing}
+use Rattle.chain.specs.Found.{Found}
 use Rattle.crc.specs.Crc8.{crc8}
 use Rattle.kinds.specs.Kinds.{listed}
 use Rattle.kinds.specs.declared.Kind.TheVariants.{Tag}
@@ -72,7 +71,7 @@ rule9 k s = first (unfit s (pool k s).to) (range (pool k s).from (pool k s).to)
 
 -- a rule on the data of the known items: by the row of their tag, and where their data begin
 abbrev pub on_known : Kinds → List ℕ → (Shape → ℕ → Found) → ℕ → Found
-on_known k s rule p = cond (is_known k s p) (rule (shape_of (byte s p)) (data_at s p)) Nothing
+on_known k s rule p = cond (is_known k s p) (rule (shape_of (byte s p)) (data_at s p)) None
 
 -- 10: pool listed, known item's index not below the string count (0 without a pool)
 abbrev pub beyond : List ℕ → ℕ → ℕ → Found
@@ -83,7 +82,7 @@ bad_index s count shape start = first (beyond s count) (range start (start + ind
 
 unfoldable pub rule10 : Kinds → List ℕ → Found
 rule10 k s =
-    cond (listed k (Tag 0x01)) (first (on_known k s (bad_index s (length (texts s (pool k s))))) (items s)) Nothing
+    cond (listed k (Tag 0x01)) (first (on_known k s (bad_index s (length (texts s (pool k s))))) (items s)) None
 
 -- 11: known item: major, minor, characters or batch out of range; the field's first byte
 -- "Major 00h to 63h is '00' to '99'; 80h to 99h is '0A' to '0Z'."
@@ -110,13 +109,13 @@ unfoldable pub bad_batch : List ℕ → ℕ → Found
 bad_batch s start = when (not (is_batch (le16 s (start + 6)))) (start + 6)
 
 abbrev pub bad_field : List ℕ → Shape → ℕ → Found
-bad_field s Shape.Pool start = Nothing
-bad_field s Shape.Serial start = Nothing
-bad_field s Shape.Flags start = Nothing
-bad_field s Shape.Address start = Nothing
+bad_field s Shape.Pool start = None
+bad_field s Shape.Serial start = None
+bad_field s Shape.Flags start = None
+bad_field s Shape.Address start = None
 bad_field s Shape.Identity start = bad_revision s start
 bad_field s Shape.Batched start = or_else (bad_revision s start) (bad_batch s start)
-bad_field s Shape.Other start = Nothing
+bad_field s Shape.Other start = None
 
 unfoldable pub rule11 : Kinds → List ℕ → Found
 rule11 k s = first (on_known k s (bad_field s)) (items s)

@@ -1,8 +1,7 @@
 -- What the writer makes of small runs, by computation: written images, each refusal of its own and the reader's, and case 4 written, read back and written again.
 -- Assumes nothing.
-use Rattle.std.specs.Prelude.{ℕ, Bool, true, false, ◌≡◌, refl, length, drop, replicate}
+use Rattle.std.specs.Prelude.{ℕ, Option, Some, None, ◌≡◌, refl, length, drop, replicate, Ok}
 use mathlib.Core.List.{List, [], ◌∷◌, ◌++◌, map, flatten}
-use Rattle.std.proofs.Math.Option.{some}
 use Rattle.chain.specs.Chain.{visit, chain}
 use Rattle.chain.specs.Fill.{tab}
 use Rattle.chain.specs.First.{first}
@@ -22,8 +21,6 @@ use Rattle.tiny_writer.specs.PartsOf.{run_of, pool_of, parts_of}
 use Rattle.tiny_writer.specs.Run.{run_size, bad_item, rule46}
 use Rattle.tiny_writer.specs.Written.{checked, written}
 use Rattle.verdict.specs.Said.{Said, says, refused, write_said}
-use Rattle.verdict.specs.declared.Judged.TheVariants.{Accepted}
-use Rattle.verdict.specs.declared.WriteAnswer.{WriteAnswer}
 
 -- a buffer of n bytes AAh
 abbrev pub blank : ℕ → List ℕ
@@ -40,7 +37,7 @@ abbrev pool4 : List ℕ
 pool4 = 0x74 ∷ 0x6F ∷ 0x70 ∷ 0xB1 ∷ []
 
 abbrev pub parts4 : Parts
-parts4 = record { run = run4; pool = some pool4 }
+parts4 = record { run = run4; pool = Some pool4 }
 
 -- ---- a table of calls
 -- what is to be written, and the length of the lent buffer; what is said, and the bytes at the buffer's front that then differ
@@ -50,8 +47,8 @@ record Call : Type 0 where
   told : Said ℕ
   front : List ℕ
 
-abbrev call : List ℕ → Bool → List ℕ → ℕ → Said ℕ → List ℕ → Call
-call run has pool room told front = record { takes = parts run has pool; room = room; told = told; front = front }
+abbrev call : List ℕ → Option (List ℕ) → ℕ → Said ℕ → List ℕ → Call
+call run pool room told front = record { takes = parts run pool; room = room; told = told; front = front }
 
 -- what the writer says of it, and the buffer after it
 abbrev outcome : Call → Said ℕ × List ℕ
@@ -67,29 +64,29 @@ long n = 0x02 ∷ n ∷ replicate n 0xAA
 abbrev calls : List Call
 calls =
     -- case 4, into a buffer with two bytes more, which stay as they were; into one of its length; and 41, a byte too short
-    call run4 true pool4 14 (says 12) case4
-    ∷ call run4 true pool4 12 (says 12) case4
-    ∷ call run4 true pool4 11 (refused 41 0) []
-    -- case 2: no item and no pool, whatever is lent as one. An empty pool is a pool
-    ∷ call [] false pool4 4 (says 4) (0x56 ∷ 0x02 ∷ 0x04 ∷ 0x6F ∷ [])
-    ∷ call [] true [] 6 (says 6) (0x56 ∷ 0x02 ∷ 0x06 ∷ 0x01 ∷ 0x00 ∷ 0xF5 ∷ [])
+    call run4 (Some pool4) 14 (says 12) case4
+    ∷ call run4 (Some pool4) 12 (says 12) case4
+    ∷ call run4 (Some pool4) 11 (refused 41 0) []
+    -- case 2: no item and no pool. An empty pool is a pool
+    ∷ call [] None 4 (says 4) (0x56 ∷ 0x02 ∷ 0x04 ∷ 0x6F ∷ [])
+    ∷ call [] (Some []) 6 (says 6) (0x56 ∷ 0x02 ∷ 0x06 ∷ 0x01 ∷ 0x00 ∷ 0xF5 ∷ [])
     -- 46 at item 1: the length byte is not the high four bits of 60. At item 0: tag 01. At item 1: cut short in its data, and after its tag
-    ∷ call (0x10 ∷ 0x01 ∷ 0x00 ∷ 0x60 ∷ 0x05 ∷ 0x01 ∷ 0x02 ∷ 0x03 ∷ 0x04 ∷ 0x05 ∷ []) false [] 20 (refused 46 1) []
-    ∷ call (0x01 ∷ 0x00 ∷ []) false [] 20 (refused 46 0) []
-    ∷ call (0x11 ∷ 0x01 ∷ 0x00 ∷ 0x11 ∷ 0x01 ∷ []) false [] 20 (refused 46 1) []
-    ∷ call (0x11 ∷ 0x01 ∷ 0x00 ∷ 0x02 ∷ []) false [] 20 (refused 46 1) []
+    ∷ call (0x10 ∷ 0x01 ∷ 0x00 ∷ 0x60 ∷ 0x05 ∷ 0x01 ∷ 0x02 ∷ 0x03 ∷ 0x04 ∷ 0x05 ∷ []) None 20 (refused 46 1) []
+    ∷ call (0x01 ∷ 0x00 ∷ []) None 20 (refused 46 0) []
+    ∷ call (0x11 ∷ 0x01 ∷ 0x00 ∷ 0x11 ∷ 0x01 ∷ []) None 20 (refused 46 1) []
+    ∷ call (0x11 ∷ 0x01 ∷ 0x00 ∷ 0x02 ∷ []) None 20 (refused 46 1) []
     -- 40 at 256 bytes and not at 255; where the pool's data are over 255; before 41, and after 46
-    ∷ call (long 249) false [] 0 (refused 41 0) []
-    ∷ call (long 250) false [] 0 (refused 40 0) []
-    ∷ call [] true (replicate 256 0xAA) 0 (refused 40 0) []
-    ∷ call (long 250 ++ (0x11 ∷ 0x00 ∷ [])) false [] 0 (refused 46 1) []
+    ∷ call (long 249) None 0 (refused 41 0) []
+    ∷ call (long 250) None 0 (refused 40 0) []
+    ∷ call [] (Some (replicate 256 0xAA)) 0 (refused 40 0) []
+    ∷ call (long 250 ++ (0x11 ∷ 0x00 ∷ [])) None 0 (refused 46 1) []
     -- 41 is said before what the reader says
-    ∷ call (0x00 ∷ 0x00 ∷ []) false [] 0 (refused 41 0) []
+    ∷ call (0x00 ∷ 0x00 ∷ []) None 0 (refused 41 0) []
     -- what the reader says, at places in the image: 7 at the tag, 9 at the pool's last byte, 10 at the index, 11 at the major
-    ∷ call (0x11 ∷ 0x01 ∷ 0x00 ∷ 0x00 ∷ 0x01 ∷ 0xAA ∷ []) false [] 20 (refused 7 5) []
-    ∷ call (0x11 ∷ 0x01 ∷ 0x00 ∷ []) true (0x74 ∷ 0x6F ∷ []) 20 (refused 9 8) []
-    ∷ call (0x11 ∷ 0x01 ∷ 0x00 ∷ 0x10 ∷ 0x01 ∷ 0x00 ∷ []) false [] 20 (refused 10 6) []
-    ∷ call (0x61 ∷ 0x06 ∷ 0x00 ∷ 0x00 ∷ 0x64 ∷ 0x00 ∷ 0x41 ∷ 0x41 ∷ []) true (0xC1 ∷ []) 20 (refused 11 6) []
+    ∷ call (0x11 ∷ 0x01 ∷ 0x00 ∷ 0x00 ∷ 0x01 ∷ 0xAA ∷ []) None 20 (refused 7 5) []
+    ∷ call (0x11 ∷ 0x01 ∷ 0x00 ∷ []) (Some (0x74 ∷ 0x6F ∷ [])) 20 (refused 9 8) []
+    ∷ call (0x11 ∷ 0x01 ∷ 0x00 ∷ 0x10 ∷ 0x01 ∷ 0x00 ∷ []) None 20 (refused 10 6) []
+    ∷ call (0x61 ∷ 0x06 ∷ 0x00 ∷ 0x00 ∷ 0x64 ∷ 0x00 ∷ 0x41 ∷ 0x41 ∷ []) (Some (0xC1 ∷ [])) 20 (refused 11 6) []
     ∷ []
 
 writes : map outcome calls ≡ map expected calls
@@ -98,11 +95,11 @@ writes = refl
 
 -- ---- case 4: what laws/Written and laws/Rebuilt claim of every image, here by computation alone
 pub record Computed : Type 0 where
-  pub written4 : written parts4 (blank 14) ≡ (WriteAnswer.Length 12, case4 ++ blank 2)
-  pub again : judged full (case4 ++ blank 2) ≡ Accepted 2
+  pub written4 : written parts4 (blank 14) ≡ (Ok 12, case4 ++ blank 2)
+  pub again : judged full (case4 ++ blank 2) ≡ Ok 2
   pub back : parts_of (case4 ++ blank 2) ≡ parts4
-  pub accepted4 : judged full case4 ≡ Accepted 2
-  pub rebuilt4 : written (parts_of case4) (blank 14) ≡ (WriteAnswer.Length 12, case4 ++ blank 2)
+  pub accepted4 : judged full case4 ≡ Ok 2
+  pub rebuilt4 : written (parts_of case4) (blank 14) ≡ (Ok 12, case4 ++ blank 2)
 
 pub computed : Computed
 unfolding written checked image body rule46 bad_item run_size number_from judged rule1 rule2 rule3 rule4 rule5 rule6 rule7 rule8 rule9 rule10 rule11 bad_index bad_revision is_major first visit chain next head_size data_length pool split texts shape_of tab flatten crc8 reduce bring bits_of bits_of_all listed all is_text run_of pool_of keep

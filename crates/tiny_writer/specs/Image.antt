@@ -1,8 +1,7 @@
 -- The image that the writer makes of a run and a pool. Paper 01, "Writers": "the pool's data or none; the pool goes last". "Tiny image": "Bytes: 56h,
 -- version 02h, total length L, items, check." Assumes nothing.
-use Rattle.std.specs.Prelude.{ℕ, ◌+◌, Bool, true, false, length}
+use Rattle.std.specs.Prelude.{ℕ, ◌+◌, Option, Some, None, length}
 use mathlib.Core.List.{List, [], ◌∷◌, ◌++◌, map, flatten}
-use Rattle.std.proofs.Math.Option.{Option, none, some}
 use Rattle.crc.specs.Crc8.{crc8}
 use Rattle.tiny_writer.specs.Run.{run_items, laid}
 
@@ -11,19 +10,14 @@ pub record Parts : Type 0 where
   pub run : List ℕ
   pub pool : Option (List ℕ)
 
--- the pool as a call gives it: its data count only where it is said that there is one
-abbrev pub pool_given : Bool → List ℕ → Option (List ℕ)
-pool_given true pool = some pool
-pool_given false pool = none
-
--- both as a call gives them
-abbrev pub parts : List ℕ → Bool → List ℕ → Parts
-parts run has pool = record { run = run; pool = pool_given has pool }
+-- both, one by one
+abbrev pub parts : List ℕ → Option (List ℕ) → Parts
+parts run pool = record { run = run; pool = pool }
 
 -- the pool as an item: tag 01, its length, its data
 abbrev pub pool_items : Option (List ℕ) → List (List ℕ)
-pool_items none = []
-pool_items (some pool) = (0x01 ∷ (length pool ∷ pool)) ∷ []
+pool_items None = []
+pool_items (Some pool) = (0x01 ∷ (length pool ∷ pool)) ∷ []
 
 -- the items of the image: those of the run in their order, then the pool
 abbrev pub laid_items : Parts → List (List ℕ)

@@ -1,4 +1,5 @@
 -- The definitions that the contracts cite, and examples of them. Assumes nothing.
+pub mod Measured
 pub mod Run
 pub mod Image
 pub mod Written

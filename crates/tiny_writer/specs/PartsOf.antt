@@ -1,7 +1,6 @@
 -- The run and the pool of an image. Paper 01, "Writers": "An image accepted with the full list can be rebuilt if it is tiny". Assumes nothing.
-use Rattle.std.specs.Prelude.{ℕ, Bool, not, drop}
+use Rattle.std.specs.Prelude.{ℕ, Bool, Option, Some, None, not, drop}
 use mathlib.Core.List.{List, [], ◌∷◌, map, flatten}
-use Rattle.std.proofs.Math.Option.{Option, none, some}
 use Rattle.chain.specs.Keep.{keep}
 use Rattle.octets.specs.Bytes.{byte, run}
 use Rattle.tiny_layout.specs.Layout.{size, items}
@@ -26,8 +25,8 @@ run_of s = flatten (map given (others (item_bytes s)))
 
 -- the data of the first item of these, past its tag and length byte
 abbrev pub data_of : List (List ℕ) → Option (List ℕ)
-data_of [] = none
-data_of (x ∷ xs) = some (drop 2 x)
+data_of [] = None
+data_of (x ∷ xs) = Some (drop 2 x)
 
 -- the pool's data, or none
 unfoldable pub pool_of : List ℕ → Option (List ℕ)

@@ -2,7 +2,7 @@
 use Rattle.std.specs.Prelude.{ℕ, ◌+◌, ◌/◌, Bool, not, cond, ◌||◌, List, [], ◌∷◌, eqb, ltb, length}
 use Rattle.chain.specs.Chain.{chain}
 use Rattle.chain.specs.Number.{number_of}
-use Rattle.chain.specs.declared.Found.{Found}
+use Rattle.chain.specs.Found.{Found}
 use Rattle.octets.specs.Bytes.{byte}
 use Rattle.octets.specs.Cut.{cut}
 use Rattle.tiny_layout.specs.Layout.{is_long, data_length}

@@ -2,15 +2,14 @@
 -- reader says of the image that would result". Assumes nothing.
 use Rattle.std.specs.Prelude.{ℕ, List, [], ◌∷◌, ltb, length}
 use Rattle.chain.specs.First.{when}
-use Rattle.chain.specs.declared.Found.{Found}
+use Rattle.chain.specs.Found.{Found}
 use Rattle.kinds.specs.Kinds.{full}
 use Rattle.tiny_rules.specs.Judged.{judged}
 use Rattle.tiny_writer.specs.Image.{Parts, image_length, image}
 use Rattle.tiny_writer.specs.Run.{rule46}
 use Rattle.verdict.specs.Verdict.{answer}
 use Rattle.verdict.specs.Written.{written_if}
-use Rattle.verdict.specs.declared.Judged.{Judged}
-use Rattle.verdict.specs.declared.WriteAnswer.{WriteAnswer}
+use Rattle.verdict.specs.Answers.{Judged, WriteAnswer}
 
 -- 40: tiny image would exceed 255
 abbrev pub rule40 : Parts → Found

@@ -5,13 +5,7 @@ ghost use Rattle.tiny_writer.specs.Run.{run_size, bad_item};
 
 use octets::{byte_at, byte_from};
 use tiny_layout::{data_length, head_size};
-
-// The number of the first bad item; or, without one, how many bytes the items take in an image.
-#[derive(Clone, Copy)]
-pub enum Measured {
-    Bad(usize),
-    Bytes(usize),
-}
+use verdict::{Refusal, refused};
 
 // Whether the item at a place has a length that is not its tag's, is of tag 01, or is cut short.
 fn is_bad(items: &[u8], at: usize) -> bool
@@ -19,13 +13,10 @@ fn is_bad(items: &[u8], at: usize) -> bool
     ensures { result ≡ bad_item items.now at }
 {
     let count = byte_from(items, at, 1);
-    if count != data_length(items, at) {
-        return true;
-    }
-    if byte_at(items, at) == 0x01 {
-        return true;
-    }
-    items.len() - at - 1 <= count as usize
+    let wrong_length = count != data_length(items, at);
+    let pool = byte_at(items, at) == 0x01;
+    let cut_short = items.len() - at - 1 <= count as usize;
+    wrong_length || pool || cut_short
 }
 
 // How many bytes the item at a place has in the run.
@@ -42,20 +33,21 @@ pub fn laid_size(items: &[u8], at: usize) -> u16
     head_size(byte_at(items, at)) as u16 + byte_from(items, at, 1) as u16
 }
 
-// Measures a run, going along its items once.
-pub fn measure(items: &[u8]) -> Measured
+// How many bytes the items of a run take in an image; or the refusal by 46 at the number of the first bad one.
+pub fn measure(items: &[u8]) -> Result<usize, Refusal>
     ensures { result ≡ measured items.now }
 {
     let mut at = 0;
     let mut number = 0;
     let mut bytes = 0;
+    // No `for` over a range: each item tells where the next one starts.
     while at < items.len() {
         if is_bad(items, at) {
-            return Measured::Bad(number);
+            return refused(46, number);
         }
         bytes += laid_size(items, at) as usize;
         at += run_size(items, at) as usize;
         number += 1;
     }
-    Measured::Bytes(bytes)
+    Ok(bytes)
 }

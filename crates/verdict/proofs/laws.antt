@@ -1,4 +1,5 @@
 -- What is proved of the definitions. Assumes nothing.
+pub mod Kept
 pub mod Accepted
 pub mod Refused
 pub mod Bounds

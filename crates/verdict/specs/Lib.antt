@@ -1,4 +1,5 @@
 -- The definitions that the contracts cite, and examples of them. Assumes nothing.
+pub mod Answers
 pub mod Verdict
 pub mod Table
 pub mod Said

@@ -1,15 +1,12 @@
 -- Two images of one length that differ in no byte that is shown: where the first is accepted, both have the same structures, and show the same items, map records
 -- and GPIO records. So two accepted images have the same count and get the same answers. Assumes nothing.
-use Rattle.std.specs.Prelude.{ℕ, ◌+◌, ◌≤◌, Bool, false, cond, ◌&&◌, List, ◌⊎◌, ◌≡◌, refl, length}
+use Rattle.std.specs.Prelude.{ℕ, ◌+◌, ◌≤◌, Bool, false, cond, ◌&&◌, List, ◌⊎◌, ◌≡◌, refl, length, Some, None, Ok}
 use Rattle.std.proofs.Math.Bool.{true, and-eq-true_iff}
 use Rattle.std.proofs.lemmas.Bool.{false≢true}
 use Rattle.std.proofs.Common.{inl, inr, ap₂, ◌∙◌, arith}
 use Rattle.std.proofs.Math.Path.{sym, ap, subst}
 use Rattle.board.specs.Answers.{numbered, item_if, item_numbered, map_record, map_record_if, map_record_numbered, is_gpio, gpio_records_at, gpio_record, gpio_record_if, gpio_record_numbered}
 use Rattle.board.specs.Items.{item_as, item_at}
-use Rattle.board.specs.declared.GpioRecordAnswer.{GpioRecordAnswer}
-use Rattle.board.specs.declared.ItemAnswer.{ItemAnswer}
-use Rattle.board.specs.declared.MapRecordAnswer.{MapRecordAnswer}
 use Rattle.board.proofs.laws.Shown.{header-same, fields-same, item-same, map-record-at-same, gpio-record-at-same}
 use Rattle.board_layout.specs.Layout.{shape_at, end_at, structures, map_at, record_size, data_offset, records}
 use Rattle.board_layout.specs.Places.{head_size, MapData, map_record_size}
@@ -23,15 +20,13 @@ use Rattle.board_rules.specs.Judged.{judged}
 use Rattle.board_rules.proofs.laws.Accepted.{accepted-count, header-is, records-fit}
 use Rattle.board_rules.proofs.laws.Tables.{Whole, gpio-whole}
 use Rattle.chain.specs.Nth.{nth}
-use Rattle.chain.specs.declared.Found.{Found}
-use Rattle.chain.specs.declared.Found.TheVariants.{At, Nothing}
+use Rattle.chain.specs.Found.{Found}
 use Rattle.chain.proofs.laws.Nth.{nth-all, all-of-nth}
 use Rattle.kinds.specs.declared.Kinds.{Kinds}
 use Rattle.octets.proofs.laws.Same.{Same}
-use Rattle.verdict.specs.declared.Judged.TheVariants.{Accepted}
 use Rattle.board.proofs.laws.AlikeBytes.{Alike, Stands, gpio-shape, map-shape, header-stands, map-stands, map-far, starts, head-alike, outside-check, fields-alike, record-alike}
 
-module _ (k : Kinds) (s t : List ℕ) (c : ℕ) (e : judged k s ≡ Accepted c) (alike : Alike k s t) where
+module _ (k : Kinds) (s t : List ℕ) (c : ℕ) (e : judged k s ≡ Ok c) (alike : Alike k s t) where
   -- ---- the same structures, and the same items
   pub structures-alike : structures s ≡ structures t
   structures-alike =
@@ -68,8 +63,8 @@ module _ (k : Kinds) (s t : List ℕ) (c : ℕ) (e : judged k s ≡ Accepted c) 
   numbered-alike n = go (nth (structures s) n) refl ∙ ap (λ (l : List ℕ). numbered k t (nth l n)) structures-alike
     where
       go : (f : Found) → nth (structures s) n ≡ f → numbered k s f ≡ numbered k t f
-      go (At p) d = ap ItemAnswer.Shown (item-alike n p d)
-      go Nothing d = refl
+      go (Some p) d = ap Ok (item-alike n p d)
+      go None d = refl
 
   -- ---- the same map records
   -- the map is known to every list, and lies at one place in both
@@ -87,12 +82,12 @@ module _ (k : Kinds) (s t : List ℕ) (c : ℕ) (e : judged k s ≡ Accepted c) 
       (records-same s t (map_at s) (head-alike k s t c e alike 1 (map_at s) (map-stands k s t c e alike)) Map ∙ ap (records Map t) map-place-alike)
     where
       go : (f : Found) → nth (records Map s (map_at s)) n ≡ f → map_record s f ≡ map_record t f
-      go (At r) d =
+      go (Some r) d =
           let w = nth-all (λ x. (map_at s + MapData ≤ x) × (x + map_record_size ≤ end_at s (map_at s))) (records Map s (map_at s)) n r (records-fit k s c e) d in
-          ap MapRecordAnswer.Shown
+          ap Ok
           (map-record-at-same s t r (r + record_from Map)
           (record-alike k s t c e alike Map 1 (map_at s) (map-stands k s t c e alike) (map-far k s t c e alike) map-known (map-shape k s c e) n r d (omega (arith, w.1))) r (omega arith) (omega arith))
-      go Nothing d = refl
+      go None d = refl
 
   -- ---- the same GPIO records
   -- GPIO data lie past k s t c e alike the header
@@ -104,23 +99,23 @@ module _ (k : Kinds) (s t : List ℕ) (c : ℕ) (e : judged k s ≡ Accepted c) 
       go (inr h) = h
 
   -- the records of the structure at p
-  gpio-at : (n i p : ℕ) → Stands s i p → gpio_record s (gpio_records_at k s n (At p)) ≡ gpio_record t (gpio_records_at k t n (At p))
+  gpio-at : (n i p : ℕ) → Stands s i p → gpio_record s (gpio_records_at k s n (Some p)) ≡ gpio_record t (gpio_records_at k t n (Some p))
   gpio-at n i p at =
       go (is_gpio (shape_at s p) && knows k (shape_at s p)) refl
-      ∙ ap₂ (λ (a : Shape) (l : List ℕ). gpio_record t (cond (is_gpio a && knows k a) (nth l n) Nothing)) (shape-same s t p (head-alike k s t c e alike i p at))
+      ∙ ap₂ (λ (a : Shape) (l : List ℕ). gpio_record t (cond (is_gpio a && knows k a) (nth l n) None)) (shape-same s t p (head-alike k s t c e alike i p at))
       (records-same s t p (head-alike k s t c e alike i p at) Gpio)
     where
       shown : is_gpio (shape_at s p) ≡ true → knows k (shape_at s p) ≡ true → (f : Found) → nth (records Gpio s p) n ≡ f → gpio_record s f ≡ gpio_record t f
-      shown g known (At r) d =
+      shown g known (Some r) d =
           let w = nth-all (λ x. (p + data_offset Gpio ≤ x) × (x + record_size Gpio ≤ end_at s p)) (records Gpio s p) n r
           (nth-all (Whole k s) (structures s) i p (gpio-whole k s c e) at known (gpio-shape (shape_at s p) g)) d in
-          ap GpioRecordAnswer.Shown
+          ap Ok
           (gpio-record-at-same s t r (r + record_from Gpio)
           (record-alike k s t c e alike Gpio i p at (gpio-far i p at g) known (gpio-shape (shape_at s p) g) n r d (omega (arith, w.1))) r (omega arith) (omega arith))
-      shown g known Nothing d = refl
+      shown g known None d = refl
 
       go : (b : Bool) → is_gpio (shape_at s p) && knows k (shape_at s p) ≡ b
-          → gpio_record s (cond b (nth (records Gpio s p) n) Nothing) ≡ gpio_record t (cond b (nth (records Gpio s p) n) Nothing)
+          → gpio_record s (cond b (nth (records Gpio s p) n) None) ≡ gpio_record t (cond b (nth (records Gpio s p) n) None)
       go true d =
           let w = (and-eq-true_iff (is_gpio (shape_at s p)) (knows k (shape_at s p))).0 d in shown w.0 w.1 (nth (records Gpio s p) n) refl
       go false d = refl
@@ -130,11 +125,11 @@ module _ (k : Kinds) (s t : List ℕ) (c : ℕ) (e : judged k s ≡ Accepted c) 
       go (nth (structures s) i) refl ∙ ap (λ (l : List ℕ). gpio_record t (gpio_records_at k t n (nth l i))) structures-alike
     where
       go : (f : Found) → nth (structures s) i ≡ f → gpio_record s (gpio_records_at k s n f) ≡ gpio_record t (gpio_records_at k t n f)
-      go (At p) d = gpio-at n i p d
-      go Nothing d = refl
+      go (Some p) d = gpio-at n i p d
+      go None d = refl
 
 -- ---- both are accepted: the same count, and the same answer for every number
-module _ (k : Kinds) (s t : List ℕ) (c d : ℕ) (e : judged k s ≡ Accepted c) (f : judged k t ≡ Accepted d) (alike : Alike k s t) where
+module _ (k : Kinds) (s t : List ℕ) (c d : ℕ) (e : judged k s ≡ Ok c) (f : judged k t ≡ Ok d) (alike : Alike k s t) where
   pub count-alike : c ≡ d
   count-alike = sym (accepted-count k s c e) ∙ ap length (structures-alike k s t c e alike) ∙ accepted-count k t d f
 

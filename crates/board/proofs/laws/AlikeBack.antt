@@ -1,6 +1,6 @@
 -- What is not shown is the same in both of two images that differ in nothing else: the premise, worded by the first one's structures, holds of the second's too.
 -- Assumes nothing.
-use Rattle.std.specs.Prelude.{ℕ, List, ◌≡◌}
+use Rattle.std.specs.Prelude.{ℕ, List, ◌≡◌, Ok}
 use Rattle.std.proofs.Common.{inl, inr, sym, ap, ◌∙◌, arith}
 use Rattle.board.specs.NotShown.{Raised, InRecord, NotShown, check, unknown, reserved, record_reserved, following}
 use Rattle.board_layout.specs.Layout.{shape_at}
@@ -11,11 +11,10 @@ use Rattle.board_layout.proofs.laws.Same.{minor-same, shape-same, end-same, reco
 use Rattle.board_rules.specs.Judged.{judged}
 use Rattle.chain.specs.Nth.{nth}
 use Rattle.kinds.specs.declared.Kinds.{Kinds}
-use Rattle.verdict.specs.declared.Judged.TheVariants.{Accepted}
 use Rattle.board.proofs.laws.AlikeBytes.{Alike, Stands, head-alike}
 use Rattle.board.proofs.laws.Alike.{structures-alike}
 
-module _ (k : Kinds) (s t : List ℕ) (c : ℕ) (e : judged k s ≡ Accepted c) (alike : Alike k s t) where
+module _ (k : Kinds) (s t : List ℕ) (c : ℕ) (e : judged k s ≡ Ok c) (alike : Alike k s t) where
   -- the other image is alike as well: the premise is worded by the first one's structures
   pub alike-back : Alike k t s
   alike-back =

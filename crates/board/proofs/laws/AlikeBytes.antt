@@ -1,6 +1,6 @@
 -- Two images of one length that differ in no byte that is shown, where the first is accepted: each byte of a head, of a field and of a record's field is shown,
 -- Crc32 left out, whatever structure it might lie in; so it agrees. Assumes nothing.
-use Rattle.std.specs.Prelude.{ℕ, ◌+◌, ◌≤◌, ◌<◌, true, false, ◌⊎◌, ◌≡◌}
+use Rattle.std.specs.Prelude.{ℕ, ◌+◌, ◌≤◌, ◌<◌, true, false, ◌⊎◌, ◌≡◌, Some, Ok}
 use Rattle.std.proofs.lemmas.Bool.{false≢true}
 use mathlib.Core.List.{List}
 use Rattle.std.proofs.Math.Logic.{inl, inr}
@@ -26,7 +26,6 @@ use Rattle.board_rules.proofs.laws.Walk.{Fits}
 use Rattle.chain.specs.All.{All}
 use Rattle.chain.specs.Chain.{ahead}
 use Rattle.chain.specs.Nth.{nth}
-use Rattle.chain.specs.declared.Found.TheVariants.{At}
 use Rattle.chain.proofs.laws.Chain.{chain-more}
 use Rattle.chain.proofs.laws.Apart.{chain-apart}
 use Rattle.chain.proofs.laws.Nth.{nth-all}
@@ -35,11 +34,10 @@ use Rattle.chain.proofs.laws.Steps.{ahead-grows}
 use Rattle.kinds.specs.declared.Kinds.{Kinds}
 use Rattle.octets.specs.Bytes.{byte}
 use Rattle.octets.proofs.laws.Same.{Same}
-use Rattle.verdict.specs.declared.Judged.TheVariants.{Accepted}
 
 -- structure i starts at p
 abbrev pub Stands : List ℕ → ℕ → ℕ → Type 0
-Stands s i p = nth (structures s) i ≡ At p
+Stands s i p = nth (structures s) i ≡ Some p
 
 -- two images of one length that differ in no byte that is shown. "An image's length is .. StructLen; what is lent past it may differ."
 pub record Alike (k : Kinds) (s t : List ℕ) : Type 0 where
@@ -64,11 +62,11 @@ gpio-shape Video e = absurd (false≢true e)
 gpio-shape Other e = absurd (false≢true e)
 
 -- the second structure is the map
-pub map-shape : (k : Kinds) (s : List ℕ) (c : ℕ) → judged k s ≡ Accepted c → shape_at s (map_at s) ≡ EeprMap
+pub map-shape : (k : Kinds) (s : List ℕ) (c : ℕ) → judged k s ≡ Ok c → shape_at s (map_at s) ≡ EeprMap
 unfolding shape_at shape_of
 map-shape k s c e = rw (map-second k s c e).1
 
-module _ (k : Kinds) (s t : List ℕ) (c : ℕ) (e : judged k s ≡ Accepted c) (alike : Alike k s t) where
+module _ (k : Kinds) (s t : List ℕ) (c : ℕ) (e : judged k s ≡ Ok c) (alike : Alike k s t) where
   -- the first two
   pub header-stands : Stands s 0 0
   unfolding nth
@@ -107,7 +105,7 @@ module _ (k : Kinds) (s t : List ℕ) (c : ℕ) (e : judged k s ≡ Accepted c) 
       ]
 
   -- the records of a structure start past its Reserved row
-  records-start : (which : Records) (p r j : ℕ) → HasRecords which (shape_at s p) → nth (records which s p) j ≡ At r → p + reserved_to (shape_at s p) ≤ r
+  records-start : (which : Records) (p r j : ℕ) → HasRecords which (shape_at s p) → nth (records which s p) j ≡ Some r → p + reserved_to (shape_at s p) ≤ r
   unfolding records
   records-start which p r j has stands =
       omega (
@@ -186,7 +184,7 @@ module _ (k : Kinds) (s t : List ℕ) (c : ℕ) (e : judged k s ≡ Accepted c) 
 
   -- and so do those of its records
   pub record-alike : (which : Records) (i p : ℕ) → Stands s i p → 0x20 ≤ p → knows k (shape_at s p) ≡ true → HasRecords which (shape_at s p)
-      → (j r : ℕ) → nth (records which s p) j ≡ At r → r + record_from which ≤ end_at s p → Same s t r (r + record_from which)
+      → (j r : ℕ) → nth (records which s p) j ≡ Some r → r + record_from which ≤ end_at s p → Same s t r (r + record_from which)
   unfolding records
   record-alike which i p at far known has j r stands w q a b =
       elim (alike.bytes q (omega (arith, b, w, (fit i p at).ends))) [ inl d ↦ d | inr u ↦ absurd (never u) ]

@@ -1,5 +1,5 @@
 -- Two accepted images that show the same item at a place: which bytes of that structure agree. Assumes nothing.
-use Rattle.std.specs.Prelude.{ℕ, ◌+◌, ◌≤◌, ◌<◌, true, List, ◌≡◌}
+use Rattle.std.specs.Prelude.{ℕ, ◌+◌, ◌≤◌, ◌<◌, true, List, ◌≡◌, Some, Ok}
 use Rattle.std.proofs.Common.{sym, subst, ◌∙◌, arith}
 use Rattle.std.proofs.Math.Path.{ap}
 use Rattle.board_layout.specs.Layout.{minor_at, length_at, shape_at, struct_len, end_at, round16, covers, next, structures, data_offset, record_size, records}
@@ -14,15 +14,13 @@ use Rattle.board_rules.proofs.laws.Walk.{Fits, GapZero}
 use Rattle.board.proofs.laws.Told.{SameShown, length-told, known-too, minor-told, shape-told}
 use Rattle.chain.specs.Chain.{chain, ahead}
 use Rattle.chain.specs.Nth.{nth}
-use Rattle.chain.specs.declared.Found.TheVariants.{At}
 use Rattle.chain.proofs.laws.Nth.{nth-all}
 use Rattle.kinds.specs.declared.Kinds.{Kinds}
 use Rattle.octets.specs.Bytes.{byte, Octets}
 use Rattle.octets.proofs.laws.Same.{Same}
 use Rattle.octets.proofs.laws.Told.{le32-told, le64-told}
-use Rattle.verdict.specs.declared.Judged.TheVariants.{Accepted}
 
-module _ (k : Kinds) (s t : List ℕ) (good : Octets s) (fine : Octets t) (c d : ℕ) (e : judged k s ≡ Accepted c) (g : judged k t ≡ Accepted d) (i p : ℕ) (at : nth (structures s) i ≡ At p) (too : nth (structures t) i ≡ At p) (item : SameShown k s t p) where
+module _ (k : Kinds) (s t : List ℕ) (good : Octets s) (fine : Octets t) (c d : ℕ) (e : judged k s ≡ Ok c) (g : judged k t ≡ Ok d) (i p : ℕ) (at : nth (structures s) i ≡ Some p) (too : nth (structures t) i ≡ Some p) (item : SameShown k s t p) where
   fits : Fits s p
   fits = nth-all (Fits s) (structures s) i p (structures-fit k s c e) at
 
@@ -71,8 +69,8 @@ module _ (k : Kinds) (s t : List ℕ) (good : Octets s) (fine : Octets t) (c d :
         row-zero k s c e i p at on h whole q a b
         ∙ sym (row-zero k t d g i p too known-here (sym minors ∙ h) (omega (arith, whole, ends, ap reserved_to shapes)) q (omega (arith, a, ap reserved_from shapes)) (omega (arith, b, ap reserved_to shapes)))
 
-    pub record-bytes : (which : Records) → HasRecords which (shape_at s p) → minor_at s p ≡ 0 → (j r : ℕ) → nth (records which s p) j ≡ At r
-        → nth (records which t p) j ≡ At r → Same s t (r + record_from which) (r + record_to which)
+    pub record-bytes : (which : Records) → HasRecords which (shape_at s p) → minor_at s p ≡ 0 → (j r : ℕ) → nth (records which s p) j ≡ Some r
+        → nth (records which t p) j ≡ Some r → Same s t (r + record_from which) (r + record_to which)
     record-bytes which is h j r stands stands-too q a b =
         record-zero k s c e i p at on which is h j r stands q a b
         ∙ sym (record-zero k t d g i p too known-here which (subst (HasRecords which) shapes is) (sym minors ∙ h) j r stands-too q a b)

@@ -1,7 +1,7 @@
 -- What is answered in an accepted image, and when: an item for every number below the count, and 42 for any other; a record of the map, or of an item that is
 -- known GPIO data, for every number below the count of its records, and 42 for any other; and an item that is not known exactly where the list does not know
 -- its structure. Assumes nothing.
-use Rattle.std.specs.Prelude.{ℕ, ◌≤◌, ◌<◌, Bool, cond, ◌&&◌, List, ◌↔◌, ◌≡◌, length, get_or}
+use Rattle.std.specs.Prelude.{ℕ, ◌≤◌, ◌<◌, Bool, cond, ◌&&◌, List, ◌↔◌, ◌≡◌, length, get_or, Some, None, Ok}
 use Rattle.std.proofs.Math.Bool.{true, false}
 use Rattle.std.proofs.lemmas.Bool.{false≢true}
 use Rattle.std.proofs.Math.Path.{refl, ap}
@@ -10,7 +10,6 @@ use Rattle.board.specs.Answers.{numbered, item_if, item_numbered, map_record, ma
 use Rattle.board.specs.Items.{item_as, item_at}
 use Rattle.board.specs.Shown.{structure_shown, record_shown}
 use Rattle.board.specs.Values.{not_known, item_fields, ItemValues, item_values, item_said, map_record_said, gpio_record_said}
-use Rattle.board.specs.declared.Item.{Item}
 use Rattle.board.proofs.laws.Rows.{shown-unknown, structure-rows, map-record-rows, gpio-record-rows}
 use Rattle.board_layout.specs.Layout.{shape_at, structures, map_at, records}
 use Rattle.board_layout.specs.Shapes.{knows}
@@ -18,16 +17,14 @@ use Rattle.board_layout.specs.declared.Records.TheVariants.{Map, Gpio}
 use Rattle.board_rules.specs.Judged.{judged}
 use Rattle.board_rules.proofs.laws.Accepted.{accepted-count}
 use Rattle.chain.specs.Nth.{nth}
-use Rattle.chain.specs.declared.Found.{Found}
-use Rattle.chain.specs.declared.Found.TheVariants.{At, Nothing}
+use Rattle.chain.specs.Found.{Found}
 use Rattle.chain.proofs.laws.Nth.{nth-below, nth-past}
 use Rattle.kinds.specs.declared.Kinds.{Kinds}
 use Rattle.octets.specs.Bytes.{Octets, run}
 use Rattle.octets.proofs.laws.Spelled.{spelled-le64}
 use Rattle.verdict.specs.Said.{says, refused}
-use Rattle.verdict.specs.declared.Judged.TheVariants.{Accepted}
 
-module _ (k : Kinds) (s : List ℕ) (c : ℕ) (e : judged k s ≡ Accepted c) where
+module _ (k : Kinds) (s : List ℕ) (c : ℕ) (e : judged k s ≡ Ok c) where
   -- ---- item by number
   -- the answer, the verdict taken out
   item-accepted : (n : ℕ) → item_numbered k s n ≡ numbered k s (nth (structures s) n)
@@ -46,13 +43,13 @@ module _ (k : Kinds) (s : List ℕ) (c : ℕ) (e : judged k s ≡ Accepted c) wh
 
   -- what holds of the item at each place holds of an item that is shown
   pub item-view :
-      (P : ItemValues → Type 0) (n : ℕ) → ((p : ℕ) → nth (structures s) n ≡ At p → P (item_values (item_at k s p)))
+      (P : ItemValues → Type 0) (n : ℕ) → ((p : ℕ) → nth (structures s) n ≡ Some p → P (item_values (item_at k s p)))
       → (v : ItemValues) → item_said (item_numbered k s n) ≡ says v → P v
   item-view P n h v said = go (nth (structures s) n) refl (ap item_said (sym (item-accepted n)) ∙ said)
     where
       go : (f : Found) → nth (structures s) n ≡ f → item_said (numbered k s f) ≡ says v → P v
-      go (At p) d x = let z : item_values (item_at k s p) ≡ v = cc in subst P z (h p d)
-      go Nothing d x = let z : ◌≡◌ {A = ℕ} 0 1 = cc in absurd (omega arith)
+      go (Some p) d x = let z : item_values (item_at k s p) ≡ v = cc in subst P z (h p d)
+      go None d x = let z : ◌≡◌ {A = ℕ} 0 1 = cc in absurd (omega arith)
 
   -- its kind is the eight signature bytes at its place
   pub item-kind : Octets s → (n : ℕ) (v : ItemValues) → item_said (item_numbered k s n) ≡ says v → v.kind ≡ run s v.place 8
@@ -65,7 +62,7 @@ module _ (k : Kinds) (s : List ℕ) (c : ℕ) (e : judged k s ≡ Accepted c) wh
   unknown-exactly n =
       item-view (λ v. (v.shown ≡ not_known) ↔ (knows k (shape_at s v.place) ≡ false)) n (λ p d. go p (knows k (shape_at s p)) refl)
     where
-      go : (p : ℕ) (b : Bool) → knows k (shape_at s p) ≡ b → (item_fields (cond b (item_as s p (shape_at s p)) Item.NotKnown) ≡ not_known) ↔ (b ≡ false)
+      go : (p : ℕ) (b : Bool) → knows k (shape_at s p) ≡ b → (item_fields (cond b (item_as s p (shape_at s p)) None) ≡ not_known) ↔ (b ≡ false)
       go p true on = (λ h. absurd (shown-unknown (structure_shown s p (shape_at s p)) (sym (structure-rows k s p (shape_at s p) on) ∙ h)), λ h. absurd (false≢true (sym h)))
       go p false off = (λ h. refl, λ h. refl)
 
@@ -96,14 +93,14 @@ module _ (k : Kinds) (s : List ℕ) (c : ℕ) (e : judged k s ≡ Accepted c) wh
       (gpio-accepted i n ∙ ap (λ (f : Found). gpio_record s (gpio_records_at k s n f)) (nth-past (structures s) i (omega (arith, accepted-count k s c e))))
 
   -- item i, at place p
-  module _ (i p : ℕ) (at : nth (structures s) i ≡ At p) where
+  module _ (i p : ℕ) (at : nth (structures s) i ≡ Some p) where
     -- by whether it is known GPIO data
     pub gpio-by :
         (b : Bool) → is_gpio (shape_at s p) && knows k (shape_at s p) ≡ b → (n : ℕ)
-        → gpio_record_numbered k s i n ≡ gpio_record s (cond b (nth (records Gpio s p) n) Nothing)
+        → gpio_record_numbered k s i n ≡ gpio_record s (cond b (nth (records Gpio s p) n) None)
     gpio-by b d n =
         gpio-accepted i n ∙ ap (λ (f : Found). gpio_record s (gpio_records_at k s n f)) at
-        ∙ ap (λ (x : Bool). gpio_record s (cond x (nth (records Gpio s p) n) Nothing)) d
+        ∙ ap (λ (x : Bool). gpio_record s (cond x (nth (records Gpio s p) n) None)) d
 
     -- any other item has no records
     pub gpio-none : is_gpio (shape_at s p) && knows k (shape_at s p) ≡ false → (n : ℕ) → gpio_record_said (gpio_record_numbered k s i n) ≡ refused 42 0

@@ -1,6 +1,6 @@
 -- What is shown of a known structure and of a record is, under each label of its table, the number or the bytes at that row. (So no field is left out, none is
 -- taken from another row, and no two labels are exchanged.) Assumes nothing.
-use Rattle.std.specs.Prelude.{ℕ, Bool, true, false, cond, List, ◌≡◌, refl}
+use Rattle.std.specs.Prelude.{ℕ, Bool, true, false, cond, List, ◌≡◌, refl, None}
 use Rattle.std.proofs.lemmas.Bool.{false≢true}
 use Rattle.std.proofs.Common.{ap, ◌∙◌, arith}
 use Rattle.std.proofs.Math.Numerals.{unary_clauses}
@@ -13,15 +13,13 @@ use Rattle.board.specs.Items.{rest_at, eeprom_at, eepr_map_at, brd_info_at, prom
 use Rattle.board.specs.Records.{map_record_at, gpio_record_at}
 use Rattle.board.specs.Shown.{structure_shown, record_shown}
 use Rattle.board.specs.Values.{map_record_values, gpio_record_values, FieldValues, fields, not_known, item_fields}
-use Rattle.board.specs.declared.Item.{Item}
 use Rattle.chain.specs.Fill.{tab}
 use Rattle.kinds.specs.declared.Kinds.{Kinds}
 use Rattle.octets.specs.Bytes.{le16, le32}
 use Rattle.octets.specs.Rows.{Field}
-use Rattle.octets.specs.Runs.{six_at, eight_at, sixteen_at}
 
 pub structure-rows : (k : Kinds) (s : List ℕ) (p : ℕ) (a : Shape) → knows k a ≡ true → item_fields (item_as s p a) ≡ fields (structure_shown s p a)
-unfolding rest_at eeprom_at eepr_map_at brd_info_at prom_sig_fields_at fpga_nfo_at mem_cnfg_at mac_info_at le16 le32 six_at eight_at sixteen_at tab
+unfolding rest_at eeprom_at eepr_map_at brd_info_at prom_sig_fields_at fpga_nfo_at mem_cnfg_at mac_info_at le16 le32 tab
 structure-rows k s p Eeprom h = refl
 structure-rows k s p EeprMap h = simp unary_clauses refl
 structure-rows k s p BrdInfo h = simp unary_clauses refl
@@ -38,11 +36,11 @@ structure-rows k s p Video h = refl
 structure-rows k s p Other h = absurd (false≢true h)
 
 pub map-record-rows : (s : List ℕ) (r : ℕ) → map_record_values (map_record_at s r) ≡ record_shown Map s r
-unfolding map_record_at le32 sixteen_at tab
+unfolding map_record_at le32 tab
 map-record-rows s r = simp unary_clauses refl
 
 pub gpio-record-rows : (s : List ℕ) (r : ℕ) → gpio_record_values (gpio_record_at s r) ≡ record_shown Gpio s r
-unfolding gpio_record_at le32 sixteen_at tab
+unfolding gpio_record_at le32 tab
 gpio-record-rows s r = simp unary_clauses refl
 
 -- some fields are not none
@@ -53,9 +51,9 @@ shown-unknown l e = let z : ◌≡◌ {A = ℕ} 0 1 = ap (λ (x : FieldValues). 
 pub known-rows : (k : Kinds) (s : List ℕ) (p : ℕ) → knows k (shape_at s p) ≡ true → item_fields (item_at k s p).item ≡ fields (structure_shown s p (shape_at s p))
 unfolding item_at
 known-rows k s p h =
-    ap (λ (b : Bool). item_fields (cond b (item_as s p (shape_at s p)) Item.NotKnown)) h ∙ structure-rows k s p (shape_at s p) h
+    ap (λ (b : Bool). item_fields (cond b (item_as s p (shape_at s p)) None)) h ∙ structure-rows k s p (shape_at s p) h
 
 -- and where it does not
 pub unknown-rows : (k : Kinds) (s : List ℕ) (p : ℕ) → knows k (shape_at s p) ≡ false → item_fields (item_at k s p).item ≡ not_known
 unfolding item_at
-unknown-rows k s p h = ap (λ (b : Bool). item_fields (cond b (item_as s p (shape_at s p)) Item.NotKnown)) h
+unknown-rows k s p h = ap (λ (b : Bool). item_fields (cond b (item_as s p (shape_at s p)) None)) h

@@ -1,7 +1,7 @@
 -- Bytes lent past StructLen are ignored by every answer: two images that agree up to the first one's StructLen, both lent whole and neither too long, get the
 -- same item, the same record of the map and the same record of GPIO data for every list and number. The judge gives both one answer; and images that agree
 -- everywhere are alike for any list. The values follow: they are read off the answers alone. Assumes nothing.
-use Rattle.std.specs.Prelude.{ℕ, ◌≤◌, List, ◌≡◌, refl, length}
+use Rattle.std.specs.Prelude.{ℕ, ◌≤◌, List, ◌≡◌, refl, length, Ok, Err}
 use Rattle.std.proofs.Common.{inl, arith}
 use Rattle.board.specs.Answers.{item_if, item_numbered, map_record_if, map_record_numbered, gpio_record_if, gpio_record_numbered}
 use Rattle.board.proofs.laws.AlikeBytes.{Alike}
@@ -12,7 +12,7 @@ use Rattle.board_rules.specs.Judged.{judged}
 use Rattle.board_rules.proofs.laws.Same.{judged-same}
 use Rattle.kinds.specs.declared.Kinds.{Kinds}
 use Rattle.octets.proofs.laws.Same.{Same}
-use Rattle.verdict.specs.declared.Judged.{Judged}
+use Rattle.verdict.specs.Answers.{Judged}
 use Rattle.verdict.specs.declared.Refusal.{Refusal}
 use Rattle.verdict.proofs.laws.Agree.{verdict-agree}
 
@@ -24,8 +24,8 @@ module _ (s t : List ℕ) (long : 0x20 ≤ struct_len s) (same : Same s t 0 (str
     -- answers that go by the verdict: they agree where they agree in an accepted image and at a refusal
     verdict-same :
         {A : Type 0} (f g : Judged → A)
-        → ((c : ℕ) → judged k s ≡ Judged.Accepted c → f (Judged.Accepted c) ≡ g (Judged.Accepted c))
-        → ((r : Refusal) → f (Judged.Refused r) ≡ g (Judged.Refused r)) → f (judged k s) ≡ g (judged k t)
+        → ((c : ℕ) → judged k s ≡ Ok c → f (Ok c) ≡ g (Ok c))
+        → ((r : Refusal) → f (Err r) ≡ g (Err r)) → f (judged k s) ≡ g (judged k t)
     verdict-same f g = verdict-agree f g (judged k s) (judged k t) (judged-same s t long same whole other most second k)
 
     -- the item of a number

@@ -1,13 +1,12 @@
 -- What two images show of one structure or one record: the same, where its fields agree. They end where the reserved field starts, and Crc32 is none of
 -- them. Assumes nothing.
-use Rattle.std.specs.Prelude.{ℕ, ◌+◌, ◌-◌, ◌≤◌, Bool, List, ◌≡◌}
+use Rattle.std.specs.Prelude.{ℕ, ◌+◌, ◌-◌, ◌≤◌, Bool, List, ◌≡◌, Some, None}
 use Rattle.std.proofs.Math.Bool.{true, false, cond}
 use Rattle.std.proofs.Math.Path.{refl, ap}
 use Rattle.std.proofs.Common.{◌∙◌, arith}
 use Rattle.board.specs.Items.{rest_at, eeprom_at, eepr_map_at, brd_info_at, prom_sig_fields_at, fpga_nfo_at, mem_cnfg_at, mac_info_at, known, item_as, item_at}
 use Rattle.board.specs.Records.{map_record_at, gpio_record_at}
 use Rattle.board.specs.declared.Fields.{Fields}
-use Rattle.board.specs.declared.Item.{Item}
 use Rattle.board_layout.specs.Layout.{shape_at}
 use Rattle.board_layout.specs.Places.{head_size, StructLen, Crc32, CrcLength, Version, ManuName, BrdName, BrdSerial, BoardId, FabId, EcId, BoardType, PartLabel, BlkLength, PageSize, PartSize, BusNumber, Master, Speed, MapData, FpgaDataType, DevNum, FuncNum, GpioData, SpdSlot, NicId, MacAddr, NicNum, HashType, EepromSig, MapLabel, MapLength, MapOffset, Address, GpioLabel, GpioLength, GpioOffset, AndData, OrData, DataSize, GpioDataType}
 use Rattle.board_layout.specs.Shapes.{knows, reserved_from}
@@ -17,7 +16,7 @@ use Rattle.board_layout.proofs.laws.Same.{signature-same, major-same, minor-same
 use Rattle.board_layout.specs.declared.Records.TheVariants.{Map, Gpio}
 use Rattle.board_records.specs.Records.{record_from}
 use Rattle.kinds.specs.declared.Kinds.{Kinds}
-use Rattle.octets.proofs.laws.Same.{Same, same-part, le16-same, le32-same, six-same, eight-same, sixteen-same}
+use Rattle.octets.proofs.laws.Same.{Same, same-part, le16-same, le32-same, run-same}
 
 -- ---- the structure at p, whose head agrees
 module _ (s t : List ℕ) (p : ℕ) (head : Same s t p (p + head_size)) where
@@ -27,7 +26,7 @@ module _ (s t : List ℕ) (p : ℕ) (head : Same s t p (p + head_size)) where
 
   known-same : {f g : Fields} → f ≡ g → known s p f ≡ known t p g
   known-same e i =
-      Item.Known (record { major = major-same s t p head i; minor = minor-same s t p head i; length = length-same s t p head i; fields = e i })
+      Some (record { major = major-same s t p head i; minor = minor-same s t p head i; length = length-same s t p head i; fields = e i })
 
   -- the fields of the header: before Crc32, and after it
   pub header-same : Same s t p (p + Crc32) → Same s t (p + CrcLength) (p + reserved_from Eeprom) → item_as s p Eeprom ≡ item_as t p Eeprom
@@ -46,7 +45,7 @@ module _ (s t : List ℕ) (p : ℕ) (head : Same s t p (p + head_size)) where
     unfolding eepr_map_at
     map-same h i =
         record {
-          partlabel = sixteen-same s t p b same (p + PartLabel) (omega arith) (omega arith) i;
+          partlabel = run-same s t p b same (p + PartLabel) (omega arith) 16 (omega arith) i;
           blklength = le32-same s t p b same (p + BlkLength) (omega arith) (omega arith) i;
           pagesize = le16-same s t p b same (p + PageSize) (omega arith) (omega arith) i;
           partsize = le32-same s t p b same (p + PartSize) (omega arith) (omega arith) i;
@@ -60,9 +59,9 @@ module _ (s t : List ℕ) (p : ℕ) (head : Same s t p (p + head_size)) where
     unfolding brd_info_at
     board-same h i =
         record {
-          manuname = sixteen-same s t p b same (p + ManuName) (omega arith) (omega arith) i;
-          brdname = sixteen-same s t p b same (p + BrdName) (omega arith) (omega arith) i;
-          brdserial = sixteen-same s t p b same (p + BrdSerial) (omega arith) (omega arith) i;
+          manuname = run-same s t p b same (p + ManuName) (omega arith) 16 (omega arith) i;
+          brdname = run-same s t p b same (p + BrdName) (omega arith) 16 (omega arith) i;
+          brdserial = run-same s t p b same (p + BrdSerial) (omega arith) 16 (omega arith) i;
           boardid = le32-same s t p b same (p + BoardId) (omega arith) (omega arith) i;
           fabid = le32-same s t p b same (p + FabId) (omega arith) (omega arith) i;
           ecid = le32-same s t p b same (p + EcId) (omega arith) (omega arith) i;
@@ -93,8 +92,8 @@ module _ (s t : List ℕ) (p : ℕ) (head : Same s t p (p + head_size)) where
     unfolding mac_info_at
     mac-same h i =
         record {
-          nicid = eight-same s t p b same (p + NicId) (omega arith) (omega arith) i;
-          macaddr = six-same s t p b same (p + MacAddr) (omega arith) (omega arith) i;
+          nicid = run-same s t p b same (p + NicId) (omega arith) 8 (omega arith) i;
+          macaddr = run-same s t p b same (p + MacAddr) (omega arith) 6 (omega arith) i;
           nicnum = le16-same s t p b same (p + NicNum) (omega arith) (omega arith) i;
           nicdata = rest-same 0x30 i;
         }
@@ -125,10 +124,10 @@ module _ (s t : List ℕ) (p : ℕ) (head : Same s t p (p + head_size)) where
         signature = signature-same s t p head i;
         place = p;
         length = length-same s t p head i - head_size;
-        item = (go (knows k (shape_at s p)) refl ∙ ap (λ (a : Shape). cond (knows k a) (item_as t p a) Item.NotKnown) (shape-same s t p head)) i;
+        item = (go (knows k (shape_at s p)) refl ∙ ap (λ (a : Shape). cond (knows k a) (item_as t p a) None) (shape-same s t p head)) i;
       }
     where
-      go : (b : Bool) → knows k (shape_at s p) ≡ b → cond b (item_as s p (shape_at s p)) Item.NotKnown ≡ cond b (item_as t p (shape_at s p)) Item.NotKnown
+      go : (b : Bool) → knows k (shape_at s p) ≡ b → cond b (item_as s p (shape_at s p)) None ≡ cond b (item_as t p (shape_at s p)) None
       go true e = fields e
       go false e = refl
 
@@ -138,7 +137,7 @@ module _ (s t : List ℕ) (a b : ℕ) (same : Same s t a b) (r : ℕ) (start : a
   unfolding map_record_at
   map-record-at-same h i =
       record {
-        maplabel = sixteen-same s t a b same (r + MapLabel) (omega arith) (omega arith) i;
+        maplabel = run-same s t a b same (r + MapLabel) (omega arith) 16 (omega arith) i;
         length = le32-same s t a b same (r + MapLength) (omega arith) (omega arith) i;
         offset = record { 0 = le32-same s t a b same (r + MapOffset) (omega arith) (omega arith) i };
         address = record { 0 = same (r + Address) (omega arith) (omega arith) i };
@@ -148,7 +147,7 @@ module _ (s t : List ℕ) (a b : ℕ) (same : Same s t a b) (r : ℕ) (start : a
   unfolding gpio_record_at
   gpio-record-at-same h i =
       record {
-        gpiolabel = sixteen-same s t a b same (r + GpioLabel) (omega arith) (omega arith) i;
+        gpiolabel = run-same s t a b same (r + GpioLabel) (omega arith) 16 (omega arith) i;
         length = le32-same s t a b same (r + GpioLength) (omega arith) (omega arith) i;
         offset = le32-same s t a b same (r + GpioOffset) (omega arith) (omega arith) i;
         anddata = le32-same s t a b same (r + AndData) (omega arith) (omega arith) i;

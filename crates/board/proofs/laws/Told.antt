@@ -1,6 +1,6 @@
 -- What a reader shows of an item tells its bytes: of every structure Signature and Length; of a known one every byte of its table, and of a record every byte of
 -- its own, but the hidden rows. The converse of laws/Shown. The rows are those of the tables, so no table is looked at here. Assumes nothing.
-use Rattle.std.specs.Prelude.{ℕ, ◌+◌, ◌-◌, ◌≤◌, ◌<◌, Bool, cond, List, [], ◌∷◌, ◌⊎◌, ◌≡◌}
+use Rattle.std.specs.Prelude.{ℕ, ◌+◌, ◌-◌, ◌≤◌, ◌<◌, Bool, cond, List, [], ◌∷◌, ◌⊎◌, ◌≡◌, None}
 use Rattle.std.proofs.Math.Bool.{true, false}
 use Rattle.std.proofs.Common.{inl, inr, sym, ◌∙◌, arith}
 use Rattle.std.proofs.Math.Path.{refl, ap, ap₂}
@@ -16,7 +16,6 @@ use Rattle.board_records.specs.Records.{record_from, record_to}
 use Rattle.board.specs.Items.{item_as, item_at}
 use Rattle.board.specs.Shown.{structure_shown, record_shown}
 use Rattle.board.specs.Values.{FieldValues, fields, not_known, item_fields}
-use Rattle.board.specs.declared.Item.{Item}
 use Rattle.board.proofs.laws.Rows.{shown-unknown, known-rows}
 use Rattle.kinds.specs.declared.Kinds.{Kinds}
 use Rattle.octets.specs.Bytes.{Octets, byte, le16}
@@ -59,7 +58,7 @@ module _ (k : Kinds) (s t : List ℕ) (p : ℕ) (same : SameShown k s t p) where
         go true h = refl
         go false h =
             absurd (shown-unknown (structure_shown s p (shape_at s p))
-            (sym (known-rows k s p on) ∙ same.shown ∙ ap (λ (b : Bool). item_fields (cond b (item_as t p (shape_at t p)) Item.NotKnown)) h))
+            (sym (known-rows k s p on) ∙ same.shown ∙ ap (λ (b : Bool). item_fields (cond b (item_as t p (shape_at t p)) None)) h))
 
     both-rows : structure_shown s p (shape_at s p) ≡ structure_shown t p (shape_at t p)
     both-rows = ap list_in (sym (known-rows k s p on) ∙ same.shown ∙ known-rows k t p known-too)

@@ -1,6 +1,6 @@
 -- Two images that agree up to place b: what rules 26 and 29 to 34 say of a structure that lies before b is the same. A head is read whole; of what follows
 -- it only what lies within the structure's Length. Assumes nothing.
-use Rattle.std.specs.Prelude.{ℕ, ◌+◌, ◌-◌, ◌*◌, ◌/◌, ◌%◌, ◌≤◌, Bool, not, List, [], ◌∷◌, ◌≡◌, eqb}
+use Rattle.std.specs.Prelude.{ℕ, ◌+◌, ◌-◌, ◌*◌, ◌/◌, ◌%◌, ◌≤◌, Bool, not, List, [], ◌∷◌, ◌≡◌, eqb, Some, None}
 use Rattle.std.proofs.Math.Bool.{true, false, cond}
 use Rattle.std.proofs.Math.Path.{refl, ap, ap₂}
 use Rattle.std.proofs.Common.{◌∙◌, arith}
@@ -24,8 +24,7 @@ use Rattle.board_records.specs.Records.{bad_map_record, repeated_label, bad_gpio
 use Rattle.board_records.proofs.laws.Same.{bad-map-record-same, repeated-label-same, bad-gpio-record-same, field-used-same, record-used-same}
 use Rattle.chain.specs.All.{All}
 use Rattle.chain.specs.First.{checks, first, or_else, when}
-use Rattle.chain.specs.declared.Found.{Found}
-use Rattle.chain.specs.declared.Found.TheVariants.{At, Nothing}
+use Rattle.chain.specs.Found.{Found}
 use Rattle.chain.proofs.laws.All.{all-of, all-map}
 use Rattle.chain.proofs.laws.First.{or_else-agree, first-agree, when-nothing}
 use Rattle.octets.proofs.laws.Same.{Same, same-part, le16-same, le32-same, label-same}
@@ -132,7 +131,7 @@ module _ (s t : List ℕ) (b : ℕ) (same : Same s t 0 b) (p : ℕ) (room : p + 
     pub reserved-used-same : (a : Shape) → reserved_used s p a ≡ reserved_used t p a
     unfolding reserved_used
     reserved-used-same a i =
-        cond (eqb (minor-same s t p head i) 0) (or_else (own-used-same a i) (records-used-same a i)) Nothing
+        cond (eqb (minor-same s t p head i) 0) (or_else (own-used-same a i) (records-used-same a i)) None
 
     -- ---- rule 33, which reads on only where the fixed part is there
     bad-fpga-same : fixed_part FpgaNfo ≤ length_at s p → bad_fpga s p ≡ bad_fpga t p
@@ -171,8 +170,8 @@ module _ (s t : List ℕ) (b : ℕ) (same : Same s t 0 b) (p : ℕ) (room : p + 
     unfolding bad_inside
     bad-inside-same a =
         go (ltb (length_at s p) (fixed_part a)) refl
-        ∙ ap (λ (n : ℕ). cond (ltb n (fixed_part a)) (At p) (bad_fields t p a)) (length-same s t p head)
+        ∙ ap (λ (n : ℕ). cond (ltb n (fixed_part a)) (Some p) (bad_fields t p a)) (length-same s t p head)
       where
-        go : (under : Bool) → ltb (length_at s p) (fixed_part a) ≡ under → cond under (At p) (bad_fields s p a) ≡ cond under (At p) (bad_fields t p a)
+        go : (under : Bool) → ltb (length_at s p) (fixed_part a) ≡ under → cond under (Some p) (bad_fields s p a) ≡ cond under (Some p) (bad_fields t p a)
         go true e = refl
         go false e = bad-fields-same a (ltb-false (length_at s p) (fixed_part a) e)

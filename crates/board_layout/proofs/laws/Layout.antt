@@ -1,6 +1,6 @@
 -- The walk's laws: rounding, and that each structure starts at least 16 bytes further on, on a boundary of 16, and not before the end of the one before.
 -- Assumes nothing.
-use Rattle.std.specs.Prelude.{ℕ, ◌+◌, ◌%◌, ◌≤◌, ◌<◌, Bool, true, false, cond, List, ◌⊎◌, ◌≡◌, refl, ltb}
+use Rattle.std.specs.Prelude.{ℕ, ◌+◌, ◌%◌, ◌≤◌, ◌<◌, Bool, true, false, cond, List, ◌⊎◌, ◌≡◌, refl, ltb, Some}
 use Rattle.std.proofs.Common.{inl, inr, arith, le-ltb, ltb-true, ltb-false}
 use Rattle.std.proofs.Math.Path.{ap}
 use Rattle.board_layout.specs.Layout.{length_at, struct_len, end_at, round16, covers, next, structures, header_length, header_with, record_size}
@@ -14,7 +14,6 @@ use Rattle.board_layout.specs.declared.Shape.TheVariants.{Eeprom}
 use Rattle.chain.specs.All.{All}
 use Rattle.chain.specs.Chain.{chain}
 use Rattle.chain.specs.Nth.{nth}
-use Rattle.chain.specs.declared.Found.TheVariants.{At}
 use Rattle.chain.proofs.laws.Chain.{chain-end, chain-more, chain-ind}
 use Rattle.chain.proofs.laws.Nth.{nth-all}
 use Rattle.chain.proofs.laws.Places.{chain-within}
@@ -80,7 +79,7 @@ module _ (s : List ℕ) where
   pub structures-below : All (λ p. (0 ≤ p) × (p < struct_len s)) (structures s)
   structures-below = chain-within (next s) (struct_len s) next-grows 0
 
-  pub structure-below : (n p : ℕ) → nth (structures s) n ≡ At p → p < struct_len s
+  pub structure-below : (n p : ℕ) → nth (structures s) n ≡ Some p → p < struct_len s
   structure-below n p e = (nth-all (λ q. (0 ≤ q) × (q < struct_len s)) (structures s) n p structures-below e).1
 
 -- ---- a header has from 20h to 30h bytes, whole sixteens, and its Reserved row lies within them or starts where they end

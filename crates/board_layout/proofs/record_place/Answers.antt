@@ -1,14 +1,14 @@
 -- `record_place` meets its contract: record n starts n sizes past the first, where that lies before the end; so a number from the end on is of none.
 -- Assumes nothing.
-use Rattle.std.proofs.Common.{◌≡◌, ℕ, ◌+◌, ◌*◌, ◌<◌, ◌≤◌, Bool, List, sym, ◌∙◌, ap, arith, ltb, lt-ltb, le-ltb}
+use Rattle.std.proofs.Common.{◌≡◌, ℕ, ◌+◌, ◌*◌, ◌≤◌, List, sym, ◌∙◌, ap, arith, Bool, ltb, le-ltb, None}
 use Rattle.board_layout.specs.Layout.{end_at, data_offset, record_size, records}
 use Rattle.board_layout.specs.declared.Records.{Records}
 use Rattle.board_layout.specs.declared.Records.TheVariants.{Map, Gpio}
+use Rattle.board_layout.proofs.laws.Checks.{then-when}
 use Rattle.board_layout.proofs.laws.Layout.{record-size}
 use Rattle.board_layout.proofs.laws.Near.{end-near}
 use Rattle.chain.specs.First.{when}
 use Rattle.chain.specs.Nth.{nth}
-use Rattle.chain.specs.declared.Found.TheVariants.{At, Nothing}
 use Rattle.chain.proofs.laws.Steps.{steps-place}
 use Rattle.board_layout.proofs.record_place.Goals as goal
 
@@ -27,10 +27,7 @@ module _ (which : Records) (s : List ℕ) (p n : ℕ) where
   place =
       steps-place (record_size which) (omega (arith, (record-size which).0)) n (p + data_offset which) (end_at s p)
 
-  found : start < end_at s p → At start ≡ nth (records which s p) n
-  found h = sym (place ∙ ap (λ (b : Bool). when b start) (lt-ltb start (end_at s p) h))
-
-  none : end_at s p ≤ start → Nothing ≡ nth (records which s p) n
+  none : end_at s p ≤ start → None ≡ nth (records which s p) n
   none h = sym (place ∙ ap (λ (b : Bool). when b start) (le-ltb start (end_at s p) h))
 
 pub returns-then-end-number : goal.returns-then-end-number
@@ -48,17 +45,6 @@ overflow_add-place-2 c = let a = c.args in
     let near = end-near a.image.now (λ p. omega (arith, c.type_inv.image p)) a.at in
     rw c.record_size.ensures (omega (arith, near, (sizes a.which a.number).1))
 
-pub returns-then-place-end : goal.returns-then-place-end
-returns-then-place-end c = let a = c.args in
-    let size = c.record_size.ensures in
-    let offset = c.data_offset.ensures in
-    rw (size, offset)
-    (found a.which a.image.now a.at a.number
-    (rw (size, offset, c.end_at-end.ensures) at c.if-place-end.true))
-
 pub returns : goal.returns
 returns c = let a = c.args in
-    let size = c.record_size.ensures in
-    let offset = c.data_offset.ensures in
-    none a.which a.image.now a.at a.number
-    (rw (size, offset, c.end_at-end.ensures) at c.if-place-end.false)
+    rw (c.record_size.ensures, c.data_offset.ensures, c.end_at-end.ensures) at c.then_some.ensures ∙ then-when _ _ ∙ sym (place a.which a.image.now a.at a.number)

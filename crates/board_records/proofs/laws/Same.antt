@@ -1,5 +1,5 @@
 -- Two images that agree up to place b: what rules 30, 34, 32 and 33 say of a record that lies before b is the same. Assumes nothing.
-use Rattle.std.specs.Prelude.{ℕ, ◌+◌, ◌*◌, ◌≤◌, Bool, true, false, not, cond, List, [], ◌∷◌, ◌≡◌, refl, eqb, ltb, leb}
+use Rattle.std.specs.Prelude.{ℕ, ◌+◌, ◌*◌, ◌≤◌, Bool, true, false, not, cond, List, [], ◌∷◌, ◌≡◌, refl, eqb, ltb, leb, None}
 use Rattle.std.proofs.Math.Path.{ap}
 use Rattle.std.proofs.Common.{◌∙◌, arith, leb-true}
 use Rattle.board_layout.specs.Layout.{end_at}
@@ -8,7 +8,6 @@ use Rattle.board_layout.specs.declared.Records.{Records}
 use Rattle.board_records.specs.Records.{map_number, bad_map_record, earlier, same_label, repeated_label, data_size_fits, bad_gpio_record, field_used, record_from, record_to, record_used}
 use Rattle.chain.specs.Chain.{ahead}
 use Rattle.chain.specs.First.{checks, when}
-use Rattle.chain.specs.declared.Found.TheVariants.{Nothing}
 use Rattle.chain.proofs.laws.First.{first-agree}
 use Rattle.chain.proofs.laws.Places.{chain-all}
 use Rattle.chain.proofs.laws.Steps.{ahead-grows}
@@ -54,7 +53,7 @@ module _ (s t : List ℕ) (b : ℕ) (same : Same s t 0 b) where
   pub field-used-same : (from to end p : ℕ) → end ≤ b → field_used s from to end p ≡ field_used t from to end p
   field-used-same from to end p h = go (leb (p + to) end) refl
     where
-      go : (inside : Bool) → leb (p + to) end ≡ inside → cond inside (nonzero s p from to) Nothing ≡ cond inside (nonzero t p from to) Nothing
+      go : (inside : Bool) → leb (p + to) end ≡ inside → cond inside (nonzero s p from to) None ≡ cond inside (nonzero t p from to) None
       go true e = nonzero-same s t 0 b same p (omega arith) from to (omega (arith, h, leb-true (p + to) end e))
       go false e = refl
 

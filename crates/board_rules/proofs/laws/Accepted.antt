@@ -1,6 +1,6 @@
 -- What acceptance gives: no rule of the table is broken, and what the rules say in numbers of what is lent, the header, the structures, the map with its
 -- records, the board and the check. Assumes nothing.
-use Rattle.std.specs.Prelude.{ℕ, ◌+◌, ◌*◌, ◌%◌, ◌≤◌, ◌<◌, not, List, [], ◌∷◌, ◌⊎◌, eqb, ltb, length}
+use Rattle.std.specs.Prelude.{ℕ, ◌+◌, ◌*◌, ◌%◌, ◌≤◌, ◌<◌, not, List, [], ◌∷◌, ◌⊎◌, eqb, ltb, length, Some, None, Ok}
 use Rattle.std.proofs.Math.Path.{◌≡◌, ap}
 use Rattle.std.proofs.Common.{arith}
 use Rattle.board_layout.specs.Layout.{signature_at, major_at, length_at, struct_len, end_at, next, structures, header_length, map_at, board_at, later_at, records, map_count}
@@ -20,41 +20,39 @@ use Rattle.chain.specs.All.{All}
 use Rattle.chain.specs.Chain.{chain}
 use Rattle.chain.specs.First.{when}
 use Rattle.chain.specs.Nth.{nth}
-use Rattle.chain.specs.declared.Found.TheVariants.{At, Nothing}
 use Rattle.chain.proofs.laws.Checks.{checks-none, kept-equal, kept-under}
 use Rattle.kinds.specs.Signatures.{eeprom, eepr_map, brd_info}
 use Rattle.kinds.specs.declared.Kinds.{Kinds}
 use Rattle.octets.specs.Bytes.{le32}
-use Rattle.verdict.specs.declared.Judged.{Judged}
-use Rattle.verdict.specs.declared.Judged.TheVariants.{Accepted}
+use Rattle.verdict.specs.Answers.{Judged}
 use Rattle.verdict.proofs.laws.Accepted.{Clear, clear, after}
 
-module _ (k : Kinds) (s : List ℕ) (n : ℕ) (e : judged k s ≡ Accepted n) where
+module _ (k : Kinds) (s : List ℕ) (n : ℕ) (e : judged k s ≡ Ok n) where
   -- no rule is broken
   pub accepted-clear : Clear (rules k s)
   unfolding judged
-  accepted-clear = clear (rules k s) (Accepted (length (structures s))) n e
+  accepted-clear = clear (rules k s) (Ok (length (structures s))) n e
 
   -- the answer counts the structures
   pub accepted-count : length (structures s) ≡ n
   unfolding judged
   accepted-count =
-      let d : ◌≡◌ {A = Judged} (Accepted (length (structures s))) (Accepted n) = after (rules k s) (Accepted (length (structures s))) n e in cc
+      let d : ◌≡◌ {A = Judged} (Ok (length (structures s))) (Ok n) = after (rules k s) (Ok (length (structures s))) n e in cc
 
   -- ---- the rules that the laws below use
-  kept21 : rule21 s ≡ Nothing
+  kept21 : rule21 s ≡ None
   kept21 = accepted-clear.1.0
 
-  kept22 : rule22 s ≡ Nothing
+  kept22 : rule22 s ≡ None
   kept22 = accepted-clear.1.1.0
 
-  kept23 : rule23 s ≡ Nothing
+  kept23 : rule23 s ≡ None
   kept23 = accepted-clear.1.1.1.0
 
-  kept25 : rule25 s ≡ Nothing
+  kept25 : rule25 s ≡ None
   kept25 = accepted-clear.1.1.1.1.1.0
 
-  kept26 : rule26 s ≡ Nothing
+  kept26 : rule26 s ≡ None
   kept26 = accepted-clear.1.1.1.1.1.1.0
 
   -- ---- rules 20 to 22
@@ -124,7 +122,7 @@ module _ (k : Kinds) (s : List ℕ) (n : ℕ) (e : judged k s ≡ Accepted n) wh
   record-count = heads.record-count s kept26
 
   -- record i starts at 30h + 20h i
-  pub record-place : (i : ℕ) → i < map_count s (map_at s) → nth (records Map s (map_at s)) i ≡ At (map_at s + MapData + i * map_record_size)
+  pub record-place : (i : ℕ) → i < map_count s (map_at s) → nth (records Map s (map_at s)) i ≡ Some (map_at s + MapData + i * map_record_size)
   record-place = heads.record-place s kept26
 
   -- each record is whole within the map

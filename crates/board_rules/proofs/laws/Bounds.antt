@@ -1,6 +1,6 @@
 -- Between which bounds the judge's answers lie. By the paper's table: rules 20 and 22 keep StructLen to 65,536, rule 23 each structure within StructLen, and
 -- rule 26 the map's records within the map. Assumes nothing.
-use Rattle.std.specs.Prelude.{ℕ, ◌+◌, ◌-◌, ◌%◌, ◌≤◌, List, ◌≡◌, refl, length}
+use Rattle.std.specs.Prelude.{ℕ, ◌+◌, ◌-◌, ◌%◌, ◌≤◌, List, ◌≡◌, refl, length, Ok}
 use Rattle.std.proofs.Math.Logic.{inl, inr}
 use Rattle.std.proofs.Common.{arith}
 use Rattle.board_layout.specs.Layout.{length_at, struct_len, end_at, round16, next, records}
@@ -18,7 +18,6 @@ use Rattle.chain.proofs.laws.Nth.{nth-all}
 use Rattle.chain.proofs.laws.Places.{count-bound}
 use Rattle.kinds.specs.declared.Kinds.{Kinds}
 use Rattle.verdict.specs.Verdict.{refusal}
-use Rattle.verdict.specs.declared.Judged.TheVariants.{Accepted}
 use Rattle.verdict.proofs.laws.Bounds.{Bounded, row, first-within}
 
 module _ (k : Kinds) (s : List ℕ) where
@@ -192,7 +191,7 @@ module _ (k : Kinds) (s : List ℕ) where
   refused-bounds n p e = first-within 20 34 65536 (table k s) refl bounded n p ((refused-exactly k s n p).0 e)
 
   -- an accepted image has at most 65,536 items, and a StructLen of at most 65,536
-  pub accepted-bounds : (n : ℕ) → judged k s ≡ Accepted n → (n ≤ 65536) × (struct_len s ≤ 65536)
+  pub accepted-bounds : (n : ℕ) → judged k s ≡ Ok n → (n ≤ 65536) × (struct_len s ≤ 65536)
   accepted-bounds n e =
       let most : struct_len s ≤ 65536 = omega (arith, (struct-len-within k s n e).1, (lent-within k s n e).1) in
       (omega (arith, accepted-count k s n e, count-bound (next s) (struct_len s) (next-grows s) 0 (omega arith)), most)

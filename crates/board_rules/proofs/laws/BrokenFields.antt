@@ -2,7 +2,7 @@
 -- in each the clauses stand in ascending order of place, and the map's records follow its fields. The records before another are those of smaller numbers.
 -- Assumes nothing.
 use Prim.Native.Nat.{ℕ, ◌+◌, ◌*◌, ◌≤◌, ◌<◌}
-use Rattle.std.specs.Prelude.{Bool, true, false, not, cond, List, [], ◌∷◌, ◌⊎◌, ◌↔◌, ◌≡◌, refl, eqb, ltb, leb}
+use Rattle.std.specs.Prelude.{Bool, true, false, not, cond, List, [], ◌∷◌, ◌⊎◌, ◌↔◌, ◌≡◌, refl, eqb, ltb, leb, Some, None}
 use Rattle.std.proofs.Common.{true≢false, sym, ◌∙◌}
 use Rattle.std.proofs.Math.Logic.{inl, inr}
 use native.Mathlib.Omega.{arith}
@@ -20,7 +20,6 @@ use Rattle.chain.specs.Chain.{ahead}
 use Rattle.chain.specs.Finds.{Among, Finds}
 use Rattle.chain.specs.First.{first, when}
 use Rattle.chain.specs.Nth.{nth}
-use Rattle.chain.specs.declared.Found.TheVariants.{At, Nothing}
 use Rattle.chain.proofs.laws.Among.{nth-before}
 use Rattle.chain.proofs.laws.Clauses.{Clause, test, over, under, other, several}
 use Rattle.chain.proofs.laws.Finds.{finds-as, finds-one, finds-some, finds-both}
@@ -119,7 +118,7 @@ module _ (s : List ℕ) where
       own r z b = let w = (map_record m r).within z b in (w.0, omega (arith, w.1))
 
   -- the number by which a record's place is told is its number
-  record-number : (m j r : ℕ) → nth (records Map s m) j ≡ At r → map_number m r ≡ j
+  record-number : (m j r : ℕ) → nth (records Map s m) j ≡ Some r → map_number m r ≡ j
   unfolding records
   record-number m j r e =
       let q : ℕ = m + MapData + j * map_record_size in
@@ -144,7 +143,7 @@ module _ (s : List ℕ) where
       means e = means-same-run s (e + MapLabel) s (r + MapLabel) 16
 
   -- the records before record j are those of smaller numbers
-  record-before : (m j r i e : ℕ) → nth (records Map s m) j ≡ At r → (nth (earlier m r) i ≡ At e) ↔ ((i < j) × (nth (records Map s m) i ≡ At e))
+  record-before : (m j r i e : ℕ) → nth (records Map s m) j ≡ Some r → (nth (earlier m r) i ≡ Some e) ↔ ((i < j) × (nth (records Map s m) i ≡ Some e))
   unfolding records
   record-before m j r i e = nth-before (ahead map_record_size) (ahead-grows map_record_size (omega arith)) (end_at s m) j (m + MapData) r i e
 
@@ -153,7 +152,7 @@ module _ (k : Kinds) (s : List ℕ) where
   abbrev HashBroken : ℕ → Type 0
   HashBroken z = (p : ℕ) × (PromSigAt k s p × (hash_at s p).broken z)
 
-  pub finds29 : rule21 s ≡ Nothing → rule25 s ≡ Nothing → Finds (Broken29 k s) (rule29 s)
+  pub finds29 : rule21 s ≡ None → rule25 s ≡ None → Finds (Broken29 k s) (rule29 s)
   unfolding rule29
   finds29 head order =
       finds-as HashBroken (Broken29 k s) to back (rule29 s)
@@ -176,7 +175,7 @@ module _ (k : Kinds) (s : List ℕ) where
   abbrev MapBroken : ℕ → Type 0
   MapBroken z = (m : ℕ) × (Second k s m × InMap s m z)
 
-  pub finds30 : rule25 s ≡ Nothing → Finds (Broken30 k s) (rule30 s)
+  pub finds30 : rule25 s ≡ None → Finds (Broken30 k s) (rule30 s)
   unfolding rule30
   finds30 order =
       finds-as MapBroken (Broken30 k s) to back (rule30 s)
@@ -214,7 +213,7 @@ module _ (k : Kinds) (s : List ℕ) where
   abbrev LabelBroken : ℕ → Type 0
   LabelBroken z = (m : ℕ) × (Second k s m × InRecord Map s m (Repeated s m) z)
 
-  pub finds34 : rule25 s ≡ Nothing → Finds (Broken34 k s) (rule34 s)
+  pub finds34 : rule25 s ≡ None → Finds (Broken34 k s) (rule34 s)
   unfolding rule34
   finds34 order =
       finds-as LabelBroken (Broken34 k s) to back (rule34 s)
@@ -234,7 +233,7 @@ module _ (k : Kinds) (s : List ℕ) where
   abbrev BoardBroken : ℕ → Type 0
   BoardBroken z = (p : ℕ) × (Third k s p × (over (byte s) 1 (p + BoardType)).broken z)
 
-  pub finds31 : rule25 s ≡ Nothing → Finds (Broken31 k s) (rule31 s)
+  pub finds31 : rule25 s ≡ None → Finds (Broken31 k s) (rule31 s)
   unfolding rule31 bad_board_type
   finds31 order =
       finds-as BoardBroken (Broken31 k s) to back (rule31 s)

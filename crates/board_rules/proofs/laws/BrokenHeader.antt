@@ -1,5 +1,5 @@
 -- Rules 20 to 22 and 27 find the smallest place where the paper's rows are broken: tests of what is lent and of the header's fields. Assumes nothing.
-use Rattle.std.specs.Prelude.{ℕ, not, List, [], ◌∷◌, ◌≡◌, length}
+use Rattle.std.specs.Prelude.{ℕ, not, List, [], ◌∷◌, ◌≡◌, length, None}
 use Rattle.std.proofs.Math.Logic.{inl, inr}
 use Rattle.std.proofs.Common.{arith}
 use Rattle.board_layout.specs.Layout.{signature_at, major_at, length_at, struct_len, header_length}
@@ -9,7 +9,6 @@ use Rattle.board_rules.specs.Broken.{Expected, Broken20, Broken21, Broken22, Bro
 use Rattle.board_rules.specs.Rules.{is_header_length, rule20, rule21, rule22, rule25, covered, check_over, rule27}
 use Rattle.board_rules.proofs.laws.BrokenPlaces.{expected-is}
 use Rattle.chain.specs.Finds.{Finds}
-use Rattle.chain.specs.declared.Found.TheVariants.{Nothing}
 use Rattle.chain.proofs.laws.Clauses.{Clause, test, over, under, other, found_in, AnyOf, finds-any}
 use Rattle.chain.proofs.laws.Finds.{finds-as, finds-one}
 use Rattle.chain.proofs.laws.Means.{Means, means-equal, means-not, means-either}
@@ -92,7 +91,7 @@ module _ (k : Kinds) (s : List ℕ) where
   Mischecked z = (n : ℕ) × (Expected k s n × AnyOf (check_tests n) z)
 
   -- by rules 21 and 25 there is one such n
-  pub finds27 : rule21 s ≡ Nothing → rule25 s ≡ Nothing → Finds (Broken27 k s) (rule27 s)
+  pub finds27 : rule21 s ≡ None → rule25 s ≡ None → Finds (Broken27 k s) (rule27 s)
   unfolding rule27
   finds27 head order =
       finds-as Mischecked (Broken27 k s) to back (rule27 s)

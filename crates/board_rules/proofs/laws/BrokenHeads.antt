@@ -1,6 +1,6 @@
 -- Rules 26 and 28 find the smallest place where the paper's rows are broken. By rules 21 and 25, which come first, the second and the third structure are map and
 -- board, and the one `$PromSig` lies after them; each head is bad at its structure's start. Assumes nothing.
-use Rattle.std.specs.Prelude.{ℕ, ◌+◌, ◌-◌, ◌*◌, ◌/◌, ◌%◌, ◌≤◌, ◌<◌, true, not, List, [], ◌∷◌, ◌⊎◌, ◌≡◌, refl, ltb}
+use Rattle.std.specs.Prelude.{ℕ, ◌+◌, ◌-◌, ◌*◌, ◌/◌, ◌%◌, ◌≤◌, ◌<◌, true, not, List, [], ◌∷◌, ◌⊎◌, ◌≡◌, refl, ltb, None}
 use Rattle.std.proofs.Math.Logic.{inl, inr}
 use Rattle.std.proofs.Common.{sym, subst, arith}
 use Rattle.board_fields.specs.Heads.{map_length_fits, bad_map_head, bad_board_head, bad_prom_sig_head}
@@ -13,8 +13,7 @@ use Rattle.board_rules.proofs.laws.BrokenPlaces.{second-is, third-is, finds-on-p
 use Rattle.board_rules.proofs.laws.Heads.{Last, prom-sig-last}
 use Rattle.chain.specs.Finds.{Finds}
 use Rattle.chain.specs.First.{or_else}
-use Rattle.chain.specs.declared.Found.{Found}
-use Rattle.chain.specs.declared.Found.TheVariants.{Nothing}
+use Rattle.chain.specs.Found.{Found}
 use Rattle.chain.proofs.laws.Clauses.{Clause, test, under, other, several}
 use Rattle.chain.proofs.laws.Finds.{finds-as, finds-when, finds-both}
 use Rattle.chain.proofs.laws.First.{or_else-nothing}
@@ -68,7 +67,7 @@ module _ (k : Kinds) (s : List ℕ) where
   HeadBad z = (map_head s (map_at s)).broken z ⊎ (board_head s (board_at s)).broken z ⊎ PromSigBad z
 
   -- it lies after the board
-  prom-sig-after : rule21 s ≡ Nothing → rule25 s ≡ Nothing → (z : ℕ) → PromSigBad z → later_at s ≤ z
+  prom-sig-after : rule21 s ≡ None → rule25 s ≡ None → (z : ℕ) → PromSigBad z → later_at s ≤ z
   prom-sig-after head order z (p, (a, b)) =
       omega (
         arith,
@@ -77,15 +76,15 @@ module _ (k : Kinds) (s : List ℕ) where
       )
 
   -- the rule finds the first of their places
-  finds-heads : rule21 s ≡ Nothing → rule25 s ≡ Nothing → Finds HeadBad (rule26 s)
+  finds-heads : rule21 s ≡ None → rule25 s ≡ None → Finds HeadBad (rule26 s)
   unfolding rule26 later_at board_at
   finds-heads head order =
       let m : Clause = map_head s (map_at s) in
       let b : Clause = board_head s (board_at s) in
       let f : Found = on_found (bad_prom_sig_head s) (prom_sig_at s) in
-      finds-both m.broken (λ z. b.broken z ⊎ PromSigBad z) (bad_map_head s (map_at s)) (or_else (bad_board_head s (board_at s)) (or_else f Nothing))
+      finds-both m.broken (λ z. b.broken z ⊎ PromSigBad z) (bad_map_head s (map_at s)) (or_else (bad_board_head s (board_at s)) (or_else f None))
       (finds-map-head s (map_at s))
-      (finds-both b.broken PromSigBad (bad_board_head s (board_at s)) (or_else f Nothing) (finds-board-head s (board_at s))
+      (finds-both b.broken PromSigBad (bad_board_head s (board_at s)) (or_else f None) (finds-board-head s (board_at s))
       (subst (Finds PromSigBad) (sym (or_else-nothing f))
       (finds-on-prom-sig k s head order (bad_prom_sig_head s) (λ p. (prom_sig_head s p).broken) (finds-prom-sig-head s)))
       (λ y z h x. omega (arith, (b.within y h).1, prom-sig-after head order z x, next-grows s (board_at s))))
@@ -95,7 +94,7 @@ module _ (k : Kinds) (s : List ℕ) where
         | inr c ↦ omega (arith, (m.within y h).1, prom-sig-after head order z c, next-grows s (map_at s), next-grows s (board_at s))
       ])
 
-  pub finds26 : rule21 s ≡ Nothing → rule25 s ≡ Nothing → Finds (Broken26 k s) (rule26 s)
+  pub finds26 : rule21 s ≡ None → rule25 s ≡ None → Finds (Broken26 k s) (rule26 s)
   finds26 head order = finds-as HeadBad (Broken26 k s) to back (rule26 s) (finds-heads head order)
     where
       to : (z : ℕ) → HeadBad z → Broken26 k s z
@@ -118,7 +117,7 @@ module _ (k : Kinds) (s : List ℕ) where
       back z (Broken26.prom_sig_length a h) = inr (inr (z, (a, inr (inl (refl, h)))))
 
   -- ---- rule 28: the board's start
-  pub finds28 : rule25 s ≡ Nothing → Finds (Broken28 k s) (rule28 s)
+  pub finds28 : rule25 s ≡ None → Finds (Broken28 k s) (rule28 s)
   unfolding rule28
   finds28 order =
       let m = means-under 4096 (end_at s (board_at s)) in

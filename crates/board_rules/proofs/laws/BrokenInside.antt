@@ -1,7 +1,7 @@
 -- Rule 33 at one structure: what is found is the smallest place where its table is not kept. The start comes first, and then the field or the records.
 -- Assumes nothing.
 use Prim.Native.Nat.{ℕ, ◌+◌, ◌-◌, ◌*◌, ◌/◌, ◌%◌, ◌≤◌, ◌<◌}
-use Rattle.std.specs.Prelude.{Bool, not, cond, List, [], ◌∷◌, ◌⊎◌, ◌≡◌, eqb}
+use Rattle.std.specs.Prelude.{Bool, not, cond, List, [], ◌∷◌, ◌⊎◌, ◌≡◌, eqb, Some}
 use Rattle.std.proofs.Math.Bool.{true, false}
 use Rattle.std.proofs.Math.Logic.{inl, inr}
 use Rattle.std.proofs.Math.Path.{refl}
@@ -21,7 +21,6 @@ use Rattle.board_rules.proofs.laws.BrokenRecords.{record-after, InRecord, finds-
 use Rattle.board_rules.proofs.laws.BrokenTables.{TableOf, no, table-of, map, fpga, gpio, others}
 use Rattle.chain.specs.Finds.{Among, Finds, Nowhere}
 use Rattle.chain.specs.First.{first, or_else, when}
-use Rattle.chain.specs.declared.Found.TheVariants.{At}
 use Rattle.chain.proofs.laws.Clauses.{Clause, test, over, other, several}
 use Rattle.chain.proofs.laws.Finds.{finds-as}
 use Rattle.chain.proofs.laws.Means.{Means, means-equal, means-not, means-either}
@@ -127,7 +126,7 @@ module _ (s : List ℕ) where
   unfolding bad_inside
   finds-inside p a = go (ltb (length_at s p) (fixed_part a)) refl
     where
-      go : (b : Bool) → ltb (length_at s p) (fixed_part a) ≡ b → Finds (InsideAt p a) (cond b (At p) (bad_fields s p a))
+      go : (b : Bool) → ltb (length_at s p) (fixed_part a) ≡ b → Finds (InsideAt p a) (cond b (Some p) (bad_fields s p a))
       go true e =
           let h : length_at s p < fixed_part a = ltb-true (length_at s p) (fixed_part a) e in
           (inl (refl, h), λ q x. elim x [ inl y ↦ omega (arith, y.0) | inr y ↦ absurd (omega (arith, h, y.0)) ])

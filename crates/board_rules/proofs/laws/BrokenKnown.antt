@@ -15,7 +15,7 @@ use Rattle.board_rules.proofs.laws.BrokenInside.{gpio_record, InsideAt, finds-in
 use Rattle.board_rules.proofs.laws.BrokenReserved.{ReservedAt, finds-reserved, reserved-own}
 use Rattle.chain.specs.Finds.{Among, Finds}
 use Rattle.chain.specs.First.{first}
-use Rattle.chain.specs.declared.Found.{Found}
+use Rattle.chain.specs.Found.{Found}
 use Rattle.chain.proofs.laws.Finds.{finds-as, finds-under, finds-along}
 use Rattle.kinds.specs.declared.Kinds.{Kinds}
 

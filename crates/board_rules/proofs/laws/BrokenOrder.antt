@@ -1,7 +1,7 @@
 -- Rule 25 finds the smallest place where the paper's row is broken. The second and the third structure are missed where they are due, or at StructLen; the later
 -- ones lie after them. A `$PromSig` that does not end at StructLen has another structure after it, by rule 23; as second or third it is missed there already, and
 -- the header is none, by rule 21. Assumes nothing.
-use Rattle.std.specs.Prelude.{ℕ, zero, suc, ◌+◌, ◌-◌, ◌≤◌, ◌<◌, min, Bool, not, cond, List, [], ◌∷◌, ◌⊎◌, ◌≡◌, eqb}
+use Rattle.std.specs.Prelude.{ℕ, zero, suc, ◌+◌, ◌-◌, ◌≤◌, ◌<◌, min, Bool, not, cond, List, [], ◌∷◌, ◌⊎◌, ◌≡◌, eqb, Some, None}
 use Rattle.std.proofs.Math.Bool.{true, false}
 use Rattle.std.proofs.Math.Logic.{inl, inr}
 use Rattle.std.proofs.Math.Path.{refl}
@@ -18,8 +18,7 @@ use Rattle.board_rules.proofs.laws.Walk.{Fits, walk-fits}
 use Rattle.chain.specs.Finds.{Among, Finds}
 use Rattle.chain.specs.First.{or_else, when, first}
 use Rattle.chain.specs.Nth.{nth}
-use Rattle.chain.specs.declared.Found.{Found}
-use Rattle.chain.specs.declared.Found.TheVariants.{At, Nothing}
+use Rattle.chain.specs.Found.{Found}
 use Rattle.chain.proofs.laws.Among.{nth-starts, among-goes}
 use Rattle.chain.proofs.laws.Apart.{among-behind}
 use Rattle.chain.proofs.laws.Clauses.{Clause, test, several}
@@ -46,7 +45,7 @@ module _ (s : List ℕ) where
   unfolding expected
   finds-expected g p = go (ltb p (struct_len s)) refl
     where
-      go : (b : Bool) → ltb p (struct_len s) ≡ b → Finds (Missed g p) (cond b (when (not (eqb (signature_at s p) g)) p) (At (struct_len s)))
+      go : (b : Bool) → ltb p (struct_len s) ≡ b → Finds (Missed g p) (cond b (when (not (eqb (signature_at s p) g)) p) (Some (struct_len s)))
       go true d =
           finds-when (Missed g p) (not (eqb (signature_at s p) g)) p (λ e. inl (refl, ltb-true p (struct_len s) d, (means-other (signature_at s p) g).0 e))
           (λ z h.
@@ -111,8 +110,8 @@ module _ (s : List ℕ) where
   finds-order =
       let l : Found = first (out_of_order s) (onwards s (later_at s)) in
       finds-both (Missed eepr_map (map_at s)) (λ z. Missed brd_info (board_at s) z ⊎ Later z) (expected s eepr_map (map_at s))
-      (or_else (expected s brd_info (board_at s)) (or_else l Nothing)) (finds-expected eepr_map (map_at s))
-      (finds-both (Missed brd_info (board_at s)) Later (expected s brd_info (board_at s)) (or_else l Nothing) (finds-expected brd_info (board_at s))
+      (or_else (expected s brd_info (board_at s)) (or_else l None)) (finds-expected eepr_map (map_at s))
+      (finds-both (Missed brd_info (board_at s)) Later (expected s brd_info (board_at s)) (or_else l None) (finds-expected brd_info (board_at s))
       (subst (Finds Later) (sym (or_else-nothing l)) finds-later)
       (λ y z h x. omega (arith, missed-place brd_info (board_at s) y h, later-after z x, next-grows s (board_at s))))
       (λ y z h x.
@@ -128,12 +127,12 @@ module _ (k : Kinds) (s : List ℕ) where
   later-structure p a = (3 + a.0, nth-later s a.0 ∙ a.1)
 
   -- one that does not end at StructLen has another after it
-  goes-on : rule23 s ≡ Nothing → (p : ℕ) → StructureAt k s p → (end_at s p ≡ struct_len s → ⊥) → next s p < struct_len s
+  goes-on : rule23 s ≡ None → (p : ℕ) → StructureAt k s p → (end_at s p ≡ struct_len s → ⊥) → next s p < struct_len s
   goes-on walk p a more =
       elim (nth-all (Fits s) (structures s) a.0 p (walk-fits s walk) a.1).goes [ inl e ↦ absurd (more e) | inr l ↦ l ]
 
   -- what is found breaks the rule
-  order-broken : rule23 s ≡ Nothing → (z : ℕ) → OutOfOrder s z → Broken25 k s z
+  order-broken : rule23 s ≡ None → (z : ℕ) → OutOfOrder s z → Broken25 k s z
   order-broken walk z (inl (inl (i, there, g))) = Broken25.second_other (rw i (second-there k s there)) g
   order-broken walk z (inl (inr (i, past))) =
       Broken25.second_absent (nth-second s ∙ ap (λ (b : Bool). when b (map_at s)) (le-ltb (map_at s) (struct_len s) past)) i
@@ -141,14 +140,14 @@ module _ (k : Kinds) (s : List ℕ) where
   order-broken walk z (inr (inl (inr (i, past)))) =
       Broken25.third_absent (nth-third s ∙ ap (λ (b : Bool). when b (board_at s)) (le-ltb (board_at s) (struct_len s) past)) i
   order-broken walk z (inr (inr (p, (a, inl (i, early))))) =
-      Broken25.later_again (3 + a.0) (omega arith) (nth-later s a.0 ∙ a.1 ∙ ap At (sym i)) early
+      Broken25.later_again (3 + a.0) (omega arith) (nth-later s a.0 ∙ a.1 ∙ ap Some (sym i)) early
   order-broken walk z (inr (inr (p, (a, inr (inl (i, (g, more))))))) =
       let b : StructureAt k s z = subst (StructureAt k s) (sym i) (later-structure p a) in
       Broken25.prom_sig_not_last (b, g) (next s z) (among-goes (next s) (struct_len s) (next-grows s) 0 z b (goes-on walk z b more)) (next-grows s z)
   order-broken walk z (inr (inr (p, (a, inr (inr h))))) = absurd h
 
   -- a `$PromSig` that is not last is out of order
-  prom-sig-early : rule21 s ≡ Nothing → (i q p : ℕ) → nth (structures s) i ≡ At q → signature_at s q ≡ prom_sig → StructureAt k s p → q < p → OutOfOrder s q
+  prom-sig-early : rule21 s ≡ None → (i q p : ℕ) → nth (structures s) i ≡ Some q → signature_at s q ≡ prom_sig → StructureAt k s p → q < p → OutOfOrder s q
   prom-sig-early head zero q p e g b l =
       absurd (omega (arith, g, (header-is s head).0, ap (signature_at s) (nth-starts (next s) (struct_len s) (next-grows s) 0 q e)))
   prom-sig-early head (suc zero) q p e g b l =
@@ -163,7 +162,7 @@ module _ (k : Kinds) (s : List ℕ) where
           omega (arith, d, end-next s q, among-behind (next s) (struct_len s) (next-grows s) 0 q p (suc (suc (suc i)), e) b l, structure-below s b.0 p b.1)
 
   -- and what breaks the rule is out of order
-  broken-order : rule21 s ≡ Nothing → (z : ℕ) → Broken25 k s z → OutOfOrder s z
+  broken-order : rule21 s ≡ None → (z : ℕ) → Broken25 k s z → OutOfOrder s z
   broken-order head z (Broken25.second_other e n) =
       let w = second-place k s z e in inl (inl (w.0, w.1, n))
   broken-order head z (Broken25.second_absent e i) =
@@ -177,5 +176,5 @@ module _ (k : Kinds) (s : List ℕ) where
   broken-order head z (Broken25.prom_sig_not_last a p b h) = prom-sig-early head a.0.0 z p a.0.1 a.1 b h
 
   -- so the two are the same places
-  pub finds25 : rule21 s ≡ Nothing → rule23 s ≡ Nothing → Finds (Broken25 k s) (rule25 s)
+  pub finds25 : rule21 s ≡ None → rule23 s ≡ None → Finds (Broken25 k s) (rule25 s)
   finds25 head walk = finds-as (OutOfOrder s) (Broken25 k s) (order-broken walk) (broken-order head) (rule25 s) (finds-order s)

@@ -1,6 +1,6 @@
 -- The structures that the paper's rows speak of: the second is due at map_at and the third at board_at, those after it from later_at on; where rules 21 and 25 find
 -- nothing the second and the third are there, and a `$PromSig` is the one that prom_sig_at finds. Assumes nothing.
-use Rattle.std.specs.Prelude.{ℕ, suc, ◌+◌, ◌≤◌, ◌<◌, Bool, List, ◌↔◌, ◌≡◌, ltb}
+use Rattle.std.specs.Prelude.{ℕ, suc, ◌+◌, ◌≤◌, ◌<◌, Bool, List, ◌↔◌, ◌≡◌, ltb, Some, None}
 use Rattle.std.proofs.Common.{inl, inr, sym, subst, ◌∙◌, arith}
 use Rattle.std.proofs.Math.Path.{refl, ap}
 use Rattle.std.proofs.Math.Dec.{eqb}
@@ -16,8 +16,7 @@ use Rattle.chain.specs.Chain.{chain}
 use Rattle.chain.specs.Finds.{Finds, Nowhere}
 use Rattle.chain.specs.First.{when}
 use Rattle.chain.specs.Nth.{nth}
-use Rattle.chain.specs.declared.Found.{Found}
-use Rattle.chain.specs.declared.Found.TheVariants.{At, Nothing}
+use Rattle.chain.specs.Found.{Found}
 use Rattle.chain.proofs.laws.Among.{nth-start, nth-next}
 use Rattle.chain.proofs.laws.Apart.{among-behind}
 use Rattle.chain.proofs.laws.Below.{below}
@@ -54,14 +53,14 @@ module _ (k : Kinds) (s : List ℕ) where
   -- where they are due
   pub second-place : (q : ℕ) → Second k s q → (q ≡ map_at s) × (map_at s < struct_len s)
   second-place q e =
-      let d : when (ltb (map_at s) (struct_len s)) (map_at s) ≡ At q = sym (nth-second s) ∙ e in (
+      let d : when (ltb (map_at s) (struct_len s)) (map_at s) ≡ Some q = sym (nth-second s) ∙ e in (
         sym (when-place (ltb (map_at s) (struct_len s)) (map_at s) q d),
         ltb-true (map_at s) (struct_len s) (when-test (ltb (map_at s) (struct_len s)) (map_at s) q d),
       )
 
   pub third-place : (q : ℕ) → Third k s q → (q ≡ board_at s) × (board_at s < struct_len s)
   third-place q e =
-      let d : when (ltb (board_at s) (struct_len s)) (board_at s) ≡ At q = sym (nth-third s) ∙ e in (
+      let d : when (ltb (board_at s) (struct_len s)) (board_at s) ≡ Some q = sym (nth-third s) ∙ e in (
         sym (when-place (ltb (board_at s) (struct_len s)) (board_at s) q d),
         ltb-true (board_at s) (struct_len s) (when-test (ltb (board_at s) (struct_len s)) (board_at s) q d),
       )
@@ -74,10 +73,10 @@ module _ (k : Kinds) (s : List ℕ) where
   third-there h = nth-third s ∙ ap (λ (b : Bool). when b (board_at s)) (lt-ltb (board_at s) (struct_len s) h)
 
   -- rule 25 finds nothing: the second is the structure at map_at, and the third the one at board_at
-  pub second-is : rule25 s ≡ Nothing → (q : ℕ) → Second k s q ↔ (q ≡ map_at s)
+  pub second-is : rule25 s ≡ None → (q : ℕ) → Second k s q ↔ (q ≡ map_at s)
   second-is e q = (λ h. (second-place q h).0, λ i. subst (Second k s) (sym i) (second-there (map-second s e).0))
 
-  pub third-is : rule25 s ≡ Nothing → (q : ℕ) → Third k s q ↔ (q ≡ board_at s)
+  pub third-is : rule25 s ≡ None → (q : ℕ) → Third k s q ↔ (q ≡ board_at s)
   third-is e q = (λ h. (third-place q h).0, λ i. subst (Third k s) (sym i) (third-there (board-third s e).0))
 
   -- the first `$PromSig` is found
@@ -88,7 +87,7 @@ module _ (k : Kinds) (s : List ℕ) where
       (λ z a t. (a, eqb-true (signature_at s z) prom_sig t)) (λ z h. (h.0, eq-eqb (signature_at s z) prom_sig h.1))
 
   -- rules 21 and 25 find nothing: a `$PromSig` is the last structure, so there is but one
-  prom-sig-ends : rule21 s ≡ Nothing → rule25 s ≡ Nothing → (p q : ℕ) → PromSigAt k s p → StructureAt k s q → q ≤ p
+  prom-sig-ends : rule21 s ≡ None → rule25 s ≡ None → (p q : ℕ) → PromSigAt k s p → StructureAt k s q → q ≤ p
   prom-sig-ends head e p q a b =
       elim (below p q) [
         | inl h ↦
@@ -98,31 +97,31 @@ module _ (k : Kinds) (s : List ℕ) where
       ]
 
   -- and it is the one that is found
-  prom-sig-one : rule21 s ≡ Nothing → rule25 s ≡ Nothing → (q : ℕ) → prom_sig_at s ≡ At q → (p : ℕ) → PromSigAt k s p ↔ (p ≡ q)
+  prom-sig-one : rule21 s ≡ None → rule25 s ≡ None → (q : ℕ) → prom_sig_at s ≡ Some q → (p : ℕ) → PromSigAt k s p ↔ (p ≡ q)
   prom-sig-one head e q d p =
       let h = found-is (PromSigAt k s) (prom_sig_at s) q prom-sig-finds d in
       (λ a. omega (arith, h.1 p a, prom-sig-ends head e q p h.0 a.0), λ i. subst (PromSigAt k s) (sym i) h.0)
 
   -- if any is
-  prom-sig-none : prom_sig_at s ≡ Nothing → Nowhere (PromSigAt k s)
+  prom-sig-none : prom_sig_at s ≡ None → Nowhere (PromSigAt k s)
   prom-sig-none d = found-none (PromSigAt k s) (prom_sig_at s) prom-sig-finds d
 
   -- so a rule on the one that is found is a rule on a `$PromSig`
-  pub finds-on-prom-sig : rule21 s ≡ Nothing → rule25 s ≡ Nothing → (rule : ℕ → Found) (B : ℕ → ℕ → Type 0) → ((p : ℕ) → Finds (B p) (rule p))
+  pub finds-on-prom-sig : rule21 s ≡ None → rule25 s ≡ None → (rule : ℕ → Found) (B : ℕ → ℕ → Type 0) → ((p : ℕ) → Finds (B p) (rule p))
       → Finds (λ z. (p : ℕ) × (PromSigAt k s p × B p z)) (on_found rule (prom_sig_at s))
   finds-on-prom-sig head e rule B each = go (prom_sig_at s) refl
     where
       go : (f : Found) → prom_sig_at s ≡ f → Finds (λ z. (p : ℕ) × (PromSigAt k s p × B p z)) (on_found rule f)
-      go (At q) d = finds-one (PromSigAt k s) q (prom-sig-one head e q d) B (rule q) (each q)
-      go Nothing d = λ z x. prom-sig-none d x.0 x.1.0
+      go (Some q) d = finds-one (PromSigAt k s) q (prom-sig-one head e q d) B (rule q) (each q)
+      go None d = λ z x. prom-sig-none d x.0 x.1.0
 
   -- and the expected CrcLength is what rule 27 goes by
-  pub expected-is : rule21 s ≡ Nothing → rule25 s ≡ Nothing → (n : ℕ) → Expected k s n ↔ (n ≡ covered s)
+  pub expected-is : rule21 s ≡ None → rule25 s ≡ None → (n : ℕ) → Expected k s n ↔ (n ≡ covered s)
   unfolding covered
   expected-is head e n = go (prom_sig_at s) refl
     where
       go : (f : Found) → prom_sig_at s ≡ f → Expected k s n ↔ (n ≡ covered_up_to (struct_len s) f)
-      go (At q) d = (to, Expected.to_prom_sig q there)
+      go (Some q) d = (to, Expected.to_prom_sig q there)
         where
           there : PromSigAt k s q
           there = (prom-sig-one head e q d q).1 refl
@@ -130,7 +129,7 @@ module _ (k : Kinds) (s : List ℕ) where
           to : Expected k s n → n ≡ q + EepromSig
           to (Expected.to_struct_len none i) = absurd (none q there)
           to (Expected.to_prom_sig p a i) = omega (arith, i, (prom-sig-one head e q d p).0 a)
-      go Nothing d = (to, Expected.to_struct_len (prom-sig-none d))
+      go None d = (to, Expected.to_struct_len (prom-sig-none d))
         where
           to : Expected k s n → n ≡ struct_len s
           to (Expected.to_struct_len none i) = i

@@ -7,7 +7,7 @@ use Rattle.board_layout.proofs.laws.Layout.{record-size}
 use Rattle.chain.specs.Chain.{ahead}
 use Rattle.chain.specs.Finds.{Among, Finds}
 use Rattle.chain.specs.First.{first}
-use Rattle.chain.specs.declared.Found.{Found}
+use Rattle.chain.specs.Found.{Found}
 use Rattle.chain.proofs.laws.Finds.{finds-along}
 use Rattle.chain.proofs.laws.Nth.{nth-all}
 use Rattle.chain.proofs.laws.Places.{chain-within}

@@ -15,7 +15,7 @@ use Rattle.board_rules.proofs.laws.BrokenRecords.{record-after, InRecord, finds-
 use Rattle.board_rules.proofs.laws.BrokenTables.{TableOf, no, table-of, map, fpga, gpio, others}
 use Rattle.chain.specs.Finds.{Finds, Nowhere}
 use Rattle.chain.specs.First.{first, or_else}
-use Rattle.chain.specs.declared.Found.{Found}
+use Rattle.chain.specs.Found.{Found}
 use Rattle.chain.proofs.laws.Finds.{finds-as, finds-under, finds-both}
 use Rattle.octets.specs.Bytes.{byte}
 use Rattle.octets.specs.Runs.{nonzero}

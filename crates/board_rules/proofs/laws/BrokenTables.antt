@@ -1,12 +1,11 @@
 -- Which tables have records, or a field that rule 33 asks about: the map's, the FPGA's and the GPIO data's. Rules 32 and 33 find nothing more in the others.
 -- Assumes nothing.
-use Rattle.std.specs.Prelude.{ℕ, List, ◌≡◌, refl}
+use Rattle.std.specs.Prelude.{ℕ, List, ◌≡◌, refl, None}
 use Rattle.std.proofs.Common.{arith}
 use Rattle.board_fields.specs.Inside.{bad_fields}
 use Rattle.board_fields.specs.Reserved.{records_used}
 use Rattle.board_layout.specs.declared.Shape.{Shape}
 use Rattle.board_layout.specs.declared.Shape.TheVariants.{Eeprom, EeprMap, BrdInfo, PromSig, AcpiTbl, FpgaNfo, GpioDat, HdCodec, Logo, MemCnfg, MacInfo, UCode, Video, Other}
-use Rattle.chain.specs.declared.Found.TheVariants.{Nothing}
 
 -- zero is not one
 pub no : ◌≡◌ {A = ℕ} 0 1 → ⊥
@@ -17,7 +16,7 @@ pub data TableOf : Shape → Type 0 where
   map : TableOf EeprMap
   fpga : TableOf FpgaNfo
   gpio : TableOf GpioDat
-  others : (a : Shape) → ((s : List ℕ) (p : ℕ) → (records_used s p a ≡ Nothing) × (bad_fields s p a ≡ Nothing))
+  others : (a : Shape) → ((s : List ℕ) (p : ℕ) → (records_used s p a ≡ None) × (bad_fields s p a ≡ None))
       → (a ≡ EeprMap → ⊥) × (a ≡ FpgaNfo → ⊥) × (a ≡ GpioDat → ⊥) → TableOf a
 
 pub table-of : (a : Shape) → TableOf a

@@ -1,6 +1,6 @@
 -- Rules 23 and 24 find the smallest place where the paper's rows are broken: what is asked of each structure in turn is answered from its start up to the next
 -- one's. A structure that is due past StructLen has no room there. Assumes nothing.
-use Rattle.std.specs.Prelude.{ℕ, ◌+◌, ◌-◌, ◌≤◌, ◌<◌, Bool, cond, List, [], ◌∷◌, ◌≡◌}
+use Rattle.std.specs.Prelude.{ℕ, ◌+◌, ◌-◌, ◌≤◌, ◌<◌, Bool, cond, List, [], ◌∷◌, ◌≡◌, None}
 use Rattle.std.proofs.Math.Bool.{true, false}
 use Rattle.std.proofs.Common.{inl, inr, sym, subst, arith, eqb-true}
 use Rattle.std.proofs.Math.Path.{refl}
@@ -12,7 +12,6 @@ use Rattle.board_layout.proofs.laws.Layout.{next-grows, end-next}
 use Rattle.board_rules.specs.Broken.{StructureAt, DueAt, Broken23, Broken24}
 use Rattle.board_rules.specs.Rules.{misplaced, rule23, gap_used, rule24}
 use Rattle.chain.specs.Finds.{Finds}
-use Rattle.chain.specs.declared.Found.TheVariants.{Nothing}
 use Rattle.chain.proofs.laws.Among.{among-goes}
 use Rattle.chain.proofs.laws.Below.{below}
 use Rattle.chain.proofs.laws.Clauses.{Clause, test, over, under, other, several}
@@ -91,7 +90,7 @@ module _ (k : Kinds) (s : List ℕ) where
   unfolding gap_used
   finds-gap p = go (eqb (end_at s p) (struct_len s)) refl
     where
-      go : (b : Bool) → eqb (end_at s p) (struct_len s) ≡ b → Finds (GapAt p) (cond b Nothing (nonzero s (end_at s p) 0 (next s p - end_at s p)))
+      go : (b : Bool) → eqb (end_at s p) (struct_len s) ≡ b → Finds (GapAt p) (cond b None (nonzero s (end_at s p) 0 (next s p - end_at s p)))
       go true d = λ z h. h.0 (eqb-true (end_at s p) (struct_len s) d)
       go false d =
           finds-as (λ z. (end_at s p + 0 ≤ z) × (z < end_at s p + (next s p - end_at s p)) × (byte s z ≡ 0 → ⊥)) (GapAt p)

@@ -1,6 +1,6 @@
 -- The walks find what each rule finds along the structures: one law on any rule (`gather`), used for each finding. Assumes nothing.
-use Rattle.std.specs.Prelude.{ℕ, ◌+◌, ◌%◌, ◌≤◌, ◌<◌, Bool, true, false, cond, List, ◌≡◌, refl, length}
-use Rattle.std.proofs.Common.{sym, ◌∙◌, arith, lt-ltb, le-ltb}
+use Rattle.std.specs.Prelude.{ℕ, ◌+◌, ◌%◌, ◌≤◌, ◌<◌, Bool, true, false, cond, List, ◌≡◌, refl, length, is_some, Some, None}
+use Rattle.std.proofs.Common.{sym, ◌∙◌, subst, arith, lt-ltb, le-ltb}
 use Rattle.std.proofs.Math.Path.{ap}
 use Rattle.board_fields.specs.Inside.{bad_inside}
 use Rattle.board_fields.specs.Reserved.{reserved_used}
@@ -15,8 +15,7 @@ use Rattle.board_rules.specs.declared.known.Contents.{Contents}
 use Rattle.board_rules.specs.declared.walk.Findings.{Findings}
 use Rattle.chain.specs.Chain.{chain}
 use Rattle.chain.specs.First.{or_else, when}
-use Rattle.chain.specs.declared.Found.{Found}
-use Rattle.chain.specs.declared.Found.TheVariants.{At, Nothing}
+use Rattle.chain.specs.Found.{Found}
 use Rattle.chain.proofs.laws.All.{all-of}
 use Rattle.chain.proofs.laws.First.{at-nothing, or_else-nothing, first-weaker}
 use Rattle.chain.proofs.laws.Gather.{gather, gathered, skip, search-from}
@@ -47,6 +46,11 @@ module _ {s : List ℕ} {end p : ℕ} {h : Head} (seen : Seen s end p h) where
   pub seen-after : round16 (p + covers h.length) ≡ next s p
   unfolding next
   seen-after = ap (λ (n : ℕ). round16 (p + covers n)) seen-length
+
+-- what is found is found at a place
+some-place : (f : Found) → is_some f ≡ true → (q : ℕ) × (f ≡ Some q)
+some-place (Some q) b = (q, refl)
+some-place None b = cc
 
 -- ---- the first walk
 -- a walk that stands at p: each finding so far, or else what its rule finds from p on, is what the rule finds; and no structure from `rest` up to p is known
@@ -85,7 +89,7 @@ module _ (s : List ℕ) where
 
     pub along-start :
         (f : Findings) →
-        f.misplaced ≡ Nothing → f.gap ≡ Nothing → f.order ≡ Nothing → f.signature ≡ Nothing → f.rest ≡ 0 → f.count ≡ 0 → Along k s 0 f
+        f.misplaced ≡ None → f.gap ≡ None → f.order ≡ None → f.signature ≡ None → f.rest ≡ 0 → f.count ≡ 0 → Along k s 0 f
     unfolding rule23 rule24 prom_sig_at
     along-start f a b c d e n =
         record {
@@ -98,8 +102,8 @@ module _ (s : List ℕ) where
           few = omega arith;
         }
 
-    pub along-turn : (f : Findings) (p q : ℕ) → p < struct_len s → q ≡ next s p → Along k s p f → Along k s q (noted k s (later_at s) p f)
-    along-turn f p q h n a =
+    turn : (f : Findings) (p q : ℕ) → p < struct_len s → q ≡ next s p → Along k s p f → Along k s q (noted k s (later_at s) p f)
+    turn f p q h n a =
         record {
           r23 = gather (misplaced s) (next s) (struct_len s) (next-grows s) f.misplaced p q h n a.r23;
           r24 = gather (gap_used s) (next s) (struct_len s) (next-grows s) f.gap p q h n a.r24;
@@ -109,6 +113,12 @@ module _ (s : List ℕ) where
           all = count-turn (next s) (struct_len s) (next-grows s) f.count p q h n a.all;
           few = omega (arith, next-grows s p, n, a.few);
         }
+
+    -- `went` is what is found with the structure at p, after f was found
+    pub along-turn :
+        {end later p q : ℕ} {f went : Findings} →
+        later ≡ later_at s → end ≡ struct_len s → p < end → went ≡ noted k s later p f → q ≡ next s p → Along k s p f → Along k s q went
+    along-turn {end} {later} {p} {q} {f} {went} l all h e n a = subst (Along k s q) (sym (rw l at e)) (turn f p q (rw all at h) n a)
 
     pub along-done : (f : Findings) (p : ℕ) → struct_len s ≤ p → Along k s p f → Walked k s f
     along-done f p h a =
@@ -126,9 +136,9 @@ module _ (s : List ℕ) where
         }
 
     -- a structure that breaks rule 23 ends the walk
-    pub along-broken : (f : Findings) (p q : ℕ) → f.misplaced ≡ At q → Along k s p f → Walked k s f
-    along-broken f p q e a =
-        let there : At q ≡ rule23 s = rw e at a.r23 in
+    pub along-broken : (f : Findings) (p : ℕ) → is_some f.misplaced ≡ true → Along k s p f → Walked k s f
+    along-broken f p b a = let (q, e) = some-place f.misplaced b in
+        let there : Some q ≡ rule23 s = rw e at a.r23 in
         record { misplaced = e ∙ there; finds = λ none. absurd (at-nothing (there ∙ none)) }
 
 -- ---- the second walk
@@ -139,32 +149,38 @@ pub record Into (k : Kinds) (s : List ℕ) (p : ℕ) (f : Contents) : Type 0 whe
 
 module _ (k : Kinds) (s : List ℕ) where
   -- what is not known is not looked into
-  unknown-nothing : (rule : ℕ → Shape → Found) (p : ℕ) → knows k (shape_at s p) ≡ false → on_known k s rule p ≡ Nothing
-  unknown-nothing rule p e = ap (λ (b : Bool). cond b (rule p (shape_at s p)) Nothing) e
+  unknown-nothing : (rule : ℕ → Shape → Found) (p : ℕ) → knows k (shape_at s p) ≡ false → on_known k s rule p ≡ None
+  unknown-nothing rule p e = ap (λ (b : Bool). cond b (rule p (shape_at s p)) None) e
 
   -- where no structure from p on is known, a rule on the known ones finds nothing from there on
-  none-known : (rule : ℕ → Shape → Found) (p : ℕ) → along s (is_known k s) p ≡ Nothing → along s (on_known k s rule) p ≡ Nothing
+  none-known : (rule : ℕ → Shape → Found) (p : ℕ) → along s (is_known k s) p ≡ None → along s (on_known k s rule) p ≡ None
   none-known rule p e =
       let from = chain (next s) (struct_len s) p in
       first-weaker (is_known k s) (on_known k s rule) from (all-of _ (λ x. go x (knows k (shape_at s x)) refl) from) e
     where
-      go : (x : ℕ) (b : Bool) → knows k (shape_at s x) ≡ b → is_known k s x ≡ Nothing → on_known k s rule x ≡ Nothing
+      go : (x : ℕ) (b : Bool) → knows k (shape_at s x) ≡ b → is_known k s x ≡ None → on_known k s rule x ≡ None
       go x true e n = absurd (at-nothing (rw e at n))
       go x false e n = unknown-nothing rule x e
 
-  pub into-start : (f : Contents) → f.reserved ≡ Nothing → f.inside ≡ Nothing → Into k s 0 f
+  pub into-start : (f : Contents) → f.reserved ≡ None → f.inside ≡ None → Into k s 0 f
   unfolding rule32 rule33
   into-start f a b = record { r32 = rw a; r33 = rw b }
 
-  pub into-turn : (f : Contents) (p q : ℕ) → p < struct_len s → q ≡ next s p → Into k s p f → Into k s q (looked_into k s p f)
-  into-turn f p q h n a =
+  step : (f : Contents) (p q : ℕ) → p < struct_len s → q ≡ next s p → Into k s p f → Into k s q (looked_into k s p f)
+  step f p q h n a =
       record {
         r32 = gather (on_known k s (reserved_used s)) (next s) (struct_len s) (next-grows s) f.reserved p q h n a.r32;
         r33 = gather (on_known k s (bad_inside s)) (next s) (struct_len s) (next-grows s) f.inside p q h n a.r33;
       }
 
+  -- `went` is what is found with the structure at p, after f was found
+  pub into-turn :
+      {end p q : ℕ} {f went : Contents} →
+      end ≡ struct_len s → p < end → went ≡ looked_into k s p f → q ≡ next s p → Into k s p f → Into k s q went
+  into-turn {end} {p} {q} {f} {went} all h e n a = subst (Into k s q) (sym e) (step f p q (rw all at h) n a)
+
   -- the walk ends where no structure is known any more, as it does past the last one, and where rule 32 is broken
-  pub into-rest : (f : Contents) (p : ℕ) → along s (is_known k s) p ≡ Nothing → Into k s p f → Looked k s f
+  pub into-rest : (f : Contents) (p : ℕ) → along s (is_known k s) p ≡ None → Into k s p f → Looked k s f
   into-rest f p e a =
       record {
         reserved = sym (or_else-nothing f.reserved) ∙ ap (or_else f.reserved) (sym (none-known (reserved_used s) p e)) ∙ a.r32;
@@ -174,7 +190,7 @@ module _ (k : Kinds) (s : List ℕ) where
   pub into-done : (f : Contents) (p : ℕ) → struct_len s ≤ p → Into k s p f → Looked k s f
   into-done f p h a = into-rest f p (search-end (is_known k s) (next s) (struct_len s) (next-grows s) p h) a
 
-  pub into-broken : (f : Contents) (p q : ℕ) → f.reserved ≡ At q → Into k s p f → Looked k s f
-  into-broken f p q e a =
-      let there : At q ≡ rule32 k s = rw e at a.r32 in
+  pub into-broken : (f : Contents) (p : ℕ) → is_some f.reserved ≡ true → Into k s p f → Looked k s f
+  into-broken f p b a = let (q, e) = some-place f.reserved b in
+      let there : Some q ≡ rule32 k s = rw e at a.r32 in
       record { reserved = e ∙ there; inside = λ none. absurd (at-nothing (there ∙ none)) }

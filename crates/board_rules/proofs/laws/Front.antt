@@ -1,6 +1,6 @@
 -- What is lent past an image: over 65,536 bytes are refused whatever they are, so 65,537 are enough for the judge's answer; and bytes that agree with an
 -- accepted image up to its StructLen are accepted as it is. Assumes nothing.
-use Rattle.std.specs.Prelude.{ℕ, ◌≤◌, ◌<◌, List, ◌≡◌, length, take}
+use Rattle.std.specs.Prelude.{ℕ, ◌≤◌, ◌<◌, List, ◌≡◌, length, take, Ok}
 use Rattle.std.proofs.Common.{inl, inr, sym, ap, ◌∙◌, arith, length-take, take_all, get_or-take, length-take-le, lt-ltb, le-ltb}
 use Rattle.board_layout.specs.Layout.{struct_len, header_length}
 use Rattle.board_layout.specs.declared.Header.TheVariants.{Short}
@@ -12,7 +12,6 @@ use Rattle.chain.proofs.laws.Below.{below}
 use Rattle.kinds.specs.declared.Kinds.{Kinds}
 use Rattle.octets.proofs.laws.Same.{Same}
 use Rattle.verdict.specs.Verdict.{refusal}
-use Rattle.verdict.specs.declared.Judged.TheVariants.{Accepted}
 
 -- over 65,536 bytes lent: 20 at 0
 pub over-long : (k : Kinds) (s : List ℕ) → 65536 < length s → judged k s ≡ refusal 20 0
@@ -29,14 +28,14 @@ judged-front k s n h =
 
 -- what agrees with an accepted image up to its StructLen, lent whole and not too long, is accepted with the same count
 pub same-accepted :
-    (k : Kinds) (s t : List ℕ) (count : ℕ) → judged k s ≡ Accepted count → Same s t 0 (struct_len s) → struct_len s ≤ length t → length t ≤ 65536
-    → judged k t ≡ Accepted count
+    (k : Kinds) (s t : List ℕ) (count : ℕ) → judged k s ≡ Ok count → Same s t 0 (struct_len s) → struct_len s ≤ length t → length t ≤ 65536
+    → judged k t ≡ Ok count
 same-accepted k s t count e same whole most =
     let within = struct-len-within k s count e in
     sym (judged-same s t (struct-len-least k s count e) same within.1 whole (lent-within k s count e).1 most k) ∙ e
 
 -- so its first StructLen bytes are
-pub front-accepted : (k : Kinds) (s : List ℕ) (count : ℕ) → judged k s ≡ Accepted count → judged k (take (struct_len s) s) ≡ Accepted count
+pub front-accepted : (k : Kinds) (s : List ℕ) (count : ℕ) → judged k s ≡ Ok count → judged k (take (struct_len s) s) ≡ Ok count
 front-accepted k s count e =
     let within = struct-len-within k s count e in
     let long : length (take (struct_len s) s) ≡ struct_len s = length-take-le (struct_len s) s within.1 in

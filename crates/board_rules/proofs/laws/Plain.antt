@@ -1,24 +1,22 @@
 -- At a plain structure the first walk finds nothing: it is counted and that is all. Assumes nothing.
-use Rattle.std.specs.Prelude.{ℕ, ◌+◌, ◌-◌, ◌%◌, ◌≤◌, Bool, ◌||◌, List, ◌≡◌, eqb, ltb}
+use Rattle.std.specs.Prelude.{ℕ, ◌+◌, ◌-◌, ◌≤◌, Bool, ◌||◌, List, ◌≡◌, eqb, ltb, None}
 use Rattle.std.proofs.Math.Bool.{true, false, cond}
 use Rattle.std.proofs.lemmas.Bool.{false≢true}
-use Rattle.std.proofs.Common.{inl, inr, sym, ap, ◌∙◌, arith}
+use Rattle.std.proofs.Common.{inl, inr, sym, ◌∙◌, arith}
 use Rattle.std.proofs.Math.Path.{refl}
-use Rattle.board_layout.specs.Layout.{signature_at, major_at, shape_at, struct_len, end_at, round16, covers, next}
-use Rattle.board_layout.specs.Shapes.{shape_of, knows}
-use Rattle.board_layout.specs.declared.Head.{Head}
+use Rattle.board_layout.specs.Layout.{signature_at, major_at, length_at, shape_at, struct_len, end_at, next}
+use Rattle.board_layout.specs.Shapes.{knows}
 use Rattle.board_layout.proofs.laws.Shapes.{known-exactly}
-use Rattle.board_rules.specs.Findings.{Seen, order_from, Plain, noted}
+use Rattle.board_rules.specs.Findings.{order_from, Plain, noted}
 use Rattle.board_rules.specs.Rules.{gap_used, out_of_order, is_prom_sig}
 use Rattle.board_rules.specs.declared.walk.Findings.{Findings}
-use Rattle.board_rules.proofs.laws.Findings.{seen-mark, seen-length, seen-shape, seen-finish, seen-after}
 use Rattle.board_rules.proofs.laws.Walk.{fits-clear}
-use Rattle.chain.specs.declared.Found.TheVariants.{Nothing}
 use Rattle.chain.proofs.laws.Below.{below}
 use Rattle.chain.proofs.laws.First.{or_else-nothing}
 use Rattle.kinds.specs.Signatures.{eeprom, eepr_map, brd_info, prom_sig}
 use Rattle.kinds.specs.declared.Kinds.{Kinds}
-use Rattle.octets.specs.Bytes.{Octets}
+use Rattle.octets.specs.Bytes.{byte}
+use Rattle.octets.specs.Label.{dollar}
 use Rattle.octets.specs.Runs.{nonzero}
 use Rattle.octets.proofs.laws.Runs.{none-nonzero}
 
@@ -30,6 +28,11 @@ none false false true d e h = absurd (false≢true (sym h))
 none false false false true e h = absurd (false≢true (sym h))
 none false false false false e h = (refl, refl, refl, refl)
 
+-- a structure that has a head ends at least that far on
+end-far : (s : List ℕ) (p : ℕ) → 16 ≤ length_at s p → p + 16 ≤ end_at s p
+unfolding end_at
+end-far s p h = omega (arith, h)
+
 module _ (k : Kinds) (s : List ℕ) (p : ℕ) where
   -- a structure that is not known is none of the four
   others :
@@ -40,54 +43,51 @@ module _ (k : Kinds) (s : List ℕ) (p : ℕ) where
   others u = none _ _ _ _ _ (sym (known-exactly k (signature_at s p) (major_at s p)) ∙ u)
 
   -- so it is not out of order, and no `$PromSig`
-  plain-order : knows k (shape_at s p) ≡ false → out_of_order s p ≡ Nothing
+  plain-order : knows k (shape_at s p) ≡ false → out_of_order s p ≡ None
   unfolding out_of_order
   plain-order u = let o = others u in rw (o.0, o.1, o.2, o.3)
 
-  plain-other : knows k (shape_at s p) ≡ false → is_prom_sig s p ≡ Nothing
+  plain-other : knows k (shape_at s p) ≡ false → is_prom_sig s p ≡ None
   plain-other u = rw (others u).3
 
-  plain-later : knows k (shape_at s p) ≡ false → (later : ℕ) → order_from later s p ≡ Nothing
+  plain-later : knows k (shape_at s p) ≡ false → (later : ℕ) → order_from later s p ≡ None
   unfolding order_from
   plain-later u later = go (ltb p later)
     where
-      go : (b : Bool) → cond b Nothing (out_of_order s p) ≡ Nothing
+      go : (b : Bool) → cond b None (out_of_order s p) ≡ None
       go true = refl
       go false = plain-order u
 
   -- between a structure that ends where the next one starts and that one there is no byte
-  tight-gap : end_at s p ≡ next s p → gap_used s p ≡ Nothing
+  tight-gap : end_at s p ≡ next s p → gap_used s p ≡ None
   unfolding gap_used
   tight-gap e = go (eqb (end_at s p) (struct_len s))
     where
-      go : (b : Bool) → cond b Nothing (nonzero s (end_at s p) 0 (next s p - end_at s p)) ≡ Nothing
+      go : (b : Bool) → cond b None (nonzero s (end_at s p) 0 (next s p - end_at s p)) ≡ None
       go true = refl
       go false = none-nonzero s (end_at s p) 0 (next s p - end_at s p) (λ i l h. absurd (omega (arith, e)))
 
   -- so the tests of the code make a structure plain
-  pub seen-plain :
-      {end after : ℕ} {h : Head} → Seen s end p h → Octets s → knows k (shape_of h.signature h.major) ≡ false → h.signature % 256 ≡ 0x24 → 16 ≤ h.length →
-      after ≡ round16 (p + covers h.length) → after ≤ end → p + h.length ≡ after → Plain k s p
-  seen-plain {end} {after} {h} seen octets u mark whole a last tight =
-      let ends : end_at s p ≡ after = sym (seen-finish seen) ∙ tight in
-      let goes : next s p ≡ after = sym (seen-after seen) ∙ sym a in
-      let more = seen-finish seen in
+  pub plain-here :
+      {after : ℕ} → knows k (shape_at s p) ≡ false → byte s p ≡ dollar → 16 ≤ length_at s p → after ≡ next s p → after ≤ struct_len s → end_at s p ≡ after →
+      Plain k s p
+  plain-here {after} u mark whole a last tight =
       record {
         placed =
             fits-clear s p
             (record {
-              room = omega (arith, ends, more, seen.all, whole, last, tight);
-              mark = sym (seen-mark seen octets) ∙ mark;
-              head = omega (arith, seen-length seen, whole);
-              ends = omega (arith, ends, seen.all, last);
+              room = omega (arith, end-far s p whole, tight, last);
+              mark = mark;
+              head = whole;
+              ends = omega (arith, tight, last);
               goes =
-                  elim (below after end) [
-                    | inl l ↦ inr (omega (arith, goes, seen.all))
-                    | inr l ↦ inl (omega (arith, ends, seen.all, last))
+                  elim (below after (struct_len s)) [
+                    | inl l ↦ inr (omega (arith, a, l))
+                    | inr l ↦ inl (omega (arith, tight, l, last))
                   ];
             });
-        tight = tight-gap (ends ∙ sym goes);
-        unknown = sym (ap (knows k) (seen-shape seen)) ∙ u;
+        tight = tight-gap (tight ∙ a);
+        unknown = u;
       }
 
   pub plain-noted :

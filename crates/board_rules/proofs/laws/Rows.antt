@@ -2,7 +2,7 @@
 -- only the second a `$EeprMap`.
 -- With VerMinor 0 the reserved bytes of a known structure and of its records are zero. Assumes nothing.
 use Prim.Native.Nat.{ℕ, ◌+◌, ◌-◌, ◌≤◌, ◌<◌}
-use Rattle.std.specs.Prelude.{Bool, true, cond, ◌⊎◌, ◌≡◌, refl}
+use Rattle.std.specs.Prelude.{Bool, true, cond, ◌⊎◌, ◌≡◌, refl, Some, None, Ok}
 use mathlib.Core.List.{List, [], ◌∷◌}
 use Rattle.std.proofs.Math.Logic.{inl}
 use Rattle.std.proofs.Common.{sym, arith, le-leb, eq-eqb}
@@ -26,8 +26,7 @@ use Rattle.chain.specs.All.{All}
 use Rattle.chain.specs.Chain.{chain}
 use Rattle.chain.specs.First.{first, or_else, when}
 use Rattle.chain.specs.Nth.{nth}
-use Rattle.chain.specs.declared.Found.{Found}
-use Rattle.chain.specs.declared.Found.TheVariants.{At, Nothing}
+use Rattle.chain.specs.Found.{Found}
 use Rattle.chain.proofs.laws.All.{all-both}
 use Rattle.chain.proofs.laws.Checks.{checks-none}
 use Rattle.chain.proofs.laws.First.{first-all, when-nothing, or_else-left, or_else-right}
@@ -37,7 +36,6 @@ use Rattle.kinds.specs.declared.Kinds.{Kinds}
 use Rattle.octets.specs.Bytes.{byte}
 use Rattle.octets.specs.Runs.{nonzero}
 use Rattle.octets.proofs.laws.Runs.{nonzero-none}
-use Rattle.verdict.specs.declared.Judged.TheVariants.{Accepted}
 
 -- ---- the structures of an accepted image
 pub record Placed (k : Kinds) (s : List ℕ) (p : ℕ) : Type 0 where
@@ -47,7 +45,7 @@ pub record Placed (k : Kinds) (s : List ℕ) (p : ℕ) : Type 0 where
   pub header : shape_at s p ≡ Eeprom → p ≡ 0
   pub map : shape_at s p ≡ EeprMap → p ≡ map_at s
 
-module _ (k : Kinds) (s : List ℕ) (n : ℕ) (e : judged k s ≡ Accepted n) where
+module _ (k : Kinds) (s : List ℕ) (n : ℕ) (e : judged k s ≡ Ok n) where
   header-placed : Placed k s 0
   unfolding shape_at shape_of
   header-placed =
@@ -77,9 +75,9 @@ module _ (k : Kinds) (s : List ℕ) (n : ℕ) (e : judged k s ≡ Accepted n) wh
 
   -- a later one
   abbrev Inside : ℕ → Type 0
-  Inside p = knows k (shape_at s p) ≡ true → bad_inside s p (shape_at s p) ≡ Nothing
+  Inside p = knows k (shape_at s p) ≡ true → bad_inside s p (shape_at s p) ≡ None
 
-  later-placed : (p : ℕ) → out_of_order s p ≡ Nothing → Inside p → Placed k s p
+  later-placed : (p : ℕ) → out_of_order s p ≡ None → Inside p → Placed k s p
   unfolding out_of_order shape_at
   later-placed p o i =
       let g : ℕ = signature_at s p in
@@ -104,7 +102,7 @@ module _ (k : Kinds) (s : List ℕ) (n : ℕ) (e : judged k s ≡ Accepted n) wh
           map-placed,
           (
             board-placed,
-            all-both (λ p. out_of_order s p ≡ Nothing) Inside (Placed k s) later-placed later (first-all (out_of_order s) later order.1.1.0)
+            all-both (λ p. out_of_order s p ≡ None) Inside (Placed k s) later-placed later (first-all (out_of_order s) later order.1.1.0)
                 inside.1.1.1,
           ),
         ),
@@ -112,29 +110,29 @@ module _ (k : Kinds) (s : List ℕ) (n : ℕ) (e : judged k s ≡ Accepted n) wh
 
 -- ---- rule 32 at a structure with VerMinor 0
 -- a field that is not used is zero
-pub field-zero : (s : List ℕ) (from to end p : ℕ) → field_used s from to end p ≡ Nothing → p + to ≤ end → (q : ℕ) → p + from ≤ q → q < p + to → byte s q ≡ 0
+pub field-zero : (s : List ℕ) (from to end p : ℕ) → field_used s from to end p ≡ None → p + to ≤ end → (q : ℕ) → p + from ≤ q → q < p + to → byte s q ≡ 0
 field-zero s from to end p e h q a b =
     let d : p + (q - p) ≡ q = omega arith in
     subst (λ (x : ℕ). byte s x ≡ 0) d
-    (nonzero-none s p from to (subst (λ (c : Bool). cond c (nonzero s p from to) Nothing ≡ Nothing) (le-leb (p + to) end h) e) (q - p) (omega arith) (omega arith))
+    (nonzero-none s p from to (subst (λ (c : Bool). cond c (nonzero s p from to) None ≡ None) (le-leb (p + to) end h) e) (q - p) (omega arith) (omega arith))
 
 -- its own field and its records' are not used
-pub unused : (s : List ℕ) (p : ℕ) (a : Shape) → minor_at s p ≡ 0 → reserved_used s p a ≡ Nothing
-    → (field_used s (reserved_from a) (reserved_to a) (end_at s p) p ≡ Nothing) × (records_used s p a ≡ Nothing)
+pub unused : (s : List ℕ) (p : ℕ) (a : Shape) → minor_at s p ≡ 0 → reserved_used s p a ≡ None
+    → (field_used s (reserved_from a) (reserved_to a) (end_at s p) p ≡ None) × (records_used s p a ≡ None)
 unfolding reserved_used
 unused s p a h e =
     let own : Found = field_used s (reserved_from a) (reserved_to a) (end_at s p) p in
-    let d : or_else own (records_used s p a) ≡ Nothing =
-    subst (λ (b : Bool). cond b (or_else own (records_used s p a)) Nothing ≡ Nothing) (eq-eqb (minor_at s p) 0 h) e in
+    let d : or_else own (records_used s p a) ≡ None =
+    subst (λ (b : Bool). cond b (or_else own (records_used s p a)) None ≡ None) (eq-eqb (minor_at s p) 0 h) e in
     (or_else-left own (records_used s p a) d, or_else-right own (records_used s p a) d)
 
 -- in an accepted image, at structure i, which is known and starts at p
-module _ (k : Kinds) (s : List ℕ) (n : ℕ) (e : judged k s ≡ Accepted n) (i p : ℕ) (at : nth (structures s) i ≡ At p) (on : knows k (shape_at s p) ≡ true) where
+module _ (k : Kinds) (s : List ℕ) (n : ℕ) (e : judged k s ≡ Ok n) (i p : ℕ) (at : nth (structures s) i ≡ Some p) (on : knows k (shape_at s p) ≡ true) where
   placed : Placed k s p
   placed = nth-all (Placed k s) (structures s) i p (structures-placed k s n e) at
 
-  kept : reserved_used s p (shape_at s p) ≡ Nothing
-  kept = nth-all (λ p. knows k (shape_at s p) ≡ true → reserved_used s p (shape_at s p) ≡ Nothing) (structures s) i p (reserved-zero k s n e) at on
+  kept : reserved_used s p (shape_at s p) ≡ None
+  kept = nth-all (λ p. knows k (shape_at s p) ≡ true → reserved_used s p (shape_at s p) ≡ None) (structures s) i p (reserved-zero k s n e) at on
 
   -- its own reserved bytes, where they lie within its Length
   pub row-zero : minor_at s p ≡ 0 → p + reserved_to (shape_at s p) ≤ end_at s p → (q : ℕ) → p + reserved_from (shape_at s p) ≤ q → q < p + reserved_to (shape_at s p) → byte s q ≡ 0
@@ -150,18 +148,18 @@ module _ (k : Kinds) (s : List ℕ) (n : ℕ) (e : judged k s ≡ Accepted n) (i
   records-whole Gpio is = nth-all (Whole k s) (structures s) i p (gpio-whole k s n e) at on is
 
   -- and their reserved bytes
-  records-unused : (which : Records) → HasRecords which (shape_at s p) → minor_at s p ≡ 0 → first (record_used which s p) (records which s p) ≡ Nothing
-  records-unused Map is h = (unused s p EeprMap h (subst (λ (a : Shape). reserved_used s p a ≡ Nothing) is kept)).1
-  records-unused Gpio is h = (unused s p GpioDat h (subst (λ (a : Shape). reserved_used s p a ≡ Nothing) is kept)).1
+  records-unused : (which : Records) → HasRecords which (shape_at s p) → minor_at s p ≡ 0 → first (record_used which s p) (records which s p) ≡ None
+  records-unused Map is h = (unused s p EeprMap h (subst (λ (a : Shape). reserved_used s p a ≡ None) is kept)).1
+  records-unused Gpio is h = (unused s p GpioDat h (subst (λ (a : Shape). reserved_used s p a ≡ None) is kept)).1
 
   record-ends : (which : Records) (r : ℕ) → Fit which r → r + record_to which ≤ end_at s p
   record-ends Map r w = w.1
   record-ends Gpio r w = w.1
 
-  pub record-zero : (which : Records) → HasRecords which (shape_at s p) → minor_at s p ≡ 0 → (j r : ℕ) → nth (records which s p) j ≡ At r
+  pub record-zero : (which : Records) → HasRecords which (shape_at s p) → minor_at s p ≡ 0 → (j r : ℕ) → nth (records which s p) j ≡ Some r
       → (q : ℕ) → r + record_from which ≤ q → q < r + record_to which → byte s q ≡ 0
   record-zero which is h j r stands =
       field-zero s (record_from which) (record_to which) (end_at s p) r
-      (nth-all (λ x. record_used which s p x ≡ Nothing) (records which s p) j r
+      (nth-all (λ x. record_used which s p x ≡ None) (records which s p) j r
       (first-all (record_used which s p) (records which s p) (records-unused which is h)) stands)
       (record-ends which r (nth-all (Fit which) (records which s p) j r (records-whole which is) stands))

@@ -2,7 +2,7 @@
 -- a refusal with its place included. The tables of rules agree rule by rule. Rules 20 to 23 read what lies before StructLen by themselves; where rule 23 is
 -- not broken each structure does, and with it all that the later rules read. Assumes nothing.
 use Prim.Native.Nat.{ℕ, ◌+◌, ◌-◌, ◌≤◌, ◌<◌}
-use Rattle.std.specs.Prelude.{Bool, ◌&&◌, ◌⊎◌, ◌≡◌, eqb, length}
+use Rattle.std.specs.Prelude.{Bool, ◌&&◌, ◌⊎◌, ◌≡◌, eqb, length, Some, None, Ok}
 use Rattle.std.proofs.Math.Bool.{true, false, not, cond}
 use mathlib.Core.List.{List, [], ◌∷◌}
 use Rattle.std.proofs.Common.{inl, inr, ◌∙◌, arith, ltb-true, le-ltb, eq-eqb}
@@ -32,8 +32,7 @@ use Rattle.board_rules.proofs.laws.Walk.{Fits, fits, walk-fits, prom-sig-fits, f
 use Rattle.chain.specs.All.{All}
 use Rattle.chain.specs.Chain.{chain}
 use Rattle.chain.specs.First.{checks, first, search, or_else, when}
-use Rattle.chain.specs.declared.Found.{Found}
-use Rattle.chain.specs.declared.Found.TheVariants.{At, Nothing}
+use Rattle.chain.specs.Found.{Found}
 use Rattle.chain.proofs.laws.All.{all-of, all-map}
 use Rattle.chain.proofs.laws.First.{or_else-agree, first-all, first-agree}
 use Rattle.chain.proofs.laws.Loops.{clear-here, clear-on}
@@ -44,7 +43,6 @@ use Rattle.kinds.specs.declared.Kinds.{Kinds}
 use Rattle.octets.specs.Label.{dollar}
 use Rattle.octets.specs.Runs.{nonzero}
 use Rattle.octets.proofs.laws.Same.{Same, le32-same, nonzero-same, take-same}
-use Rattle.verdict.specs.declared.Judged.TheVariants.{Accepted}
 use Rattle.verdict.proofs.laws.Agree.{Agree, agree-more, agree-answer}
 
 module _ (s t : List ℕ) (long : 0x20 ≤ struct_len s) (same : Same s t 0 (struct_len s)) where
@@ -90,7 +88,7 @@ module _ (s t : List ℕ) (long : 0x20 ≤ struct_len s) (same : Same s t 0 (str
       along-same (λ _. Unit {0}) (all-of (λ _. Unit {0}) (λ _. tt) (structures s)) (misplaced s) (misplaced t) (λ p _. misplaced-same p)
 
   -- ---- the later rules, where rule 23 is not broken
-  module _ (walk : rule23 s ≡ Nothing) where
+  module _ (walk : rule23 s ≡ None) where
     -- the head of a structure agrees
     head : (p : ℕ) → Fits s p → Same s t p (p + head_size)
     head p f = head-same s t long same p f.room
@@ -101,14 +99,14 @@ module _ (s t : List ℕ) (long : 0x20 ≤ struct_len s) (same : Same s t 0 (str
     gap-same p f =
         go f.goes
         ∙ (λ i.
-        let end : ℕ = end-same s t p (head p f) i in cond (eqb end (len i)) Nothing (nonzero t end 0 (next-same s t p (head p f) i - end)))
+        let end : ℕ = end-same s t p (head p f) i in cond (eqb end (len i)) None (nonzero t end 0 (next-same s t p (head p f) i - end)))
       where
         go : (end_at s p ≡ struct_len s) ⊎ (next s p < struct_len s)
-            → cond (eqb (end_at s p) (struct_len s)) Nothing (nonzero s (end_at s p) 0 (next s p - end_at s p))
-            ≡ cond (eqb (end_at s p) (struct_len s)) Nothing (nonzero t (end_at s p) 0 (next s p - end_at s p))
+            → cond (eqb (end_at s p) (struct_len s)) None (nonzero s (end_at s p) 0 (next s p - end_at s p))
+            ≡ cond (eqb (end_at s p) (struct_len s)) None (nonzero t (end_at s p) 0 (next s p - end_at s p))
         go (inl e) = rw (eq-eqb (end_at s p) (struct_len s) e)
         go (inr h) =
-            ap (λ (f : Found). cond (eqb (end_at s p) (struct_len s)) Nothing f)
+            ap (λ (f : Found). cond (eqb (end_at s p) (struct_len s)) None f)
             (nonzero-same s t 0 (struct_len s) same (end_at s p) (omega arith) 0 (next s p - end_at s p) (omega (arith, h, end-next s p)))
 
     rule24-same : rule24 s ≡ rule24 t
@@ -117,7 +115,7 @@ module _ (s t : List ℕ) (long : 0x20 ≤ struct_len s) (same : Same s t 0 (str
 
     -- ---- rule 25: where the second is absent the third is not looked for, and so on
     -- rule 23 from the second structure on
-    from-map : search (misplaced s) (next s) (struct_len s) (map_at s) ≡ Nothing
+    from-map : search (misplaced s) (next s) (struct_len s) (map_at s) ≡ None
     unfolding rule23 map_at
     from-map = clear-on (misplaced s) (next s) (struct_len s) (next-grows s) 0 (map_at s) (omega arith) refl walk
 
@@ -127,10 +125,10 @@ module _ (s t : List ℕ) (long : 0x20 ≤ struct_len s) (same : Same s t 0 (str
     -- a signature is read only where a structure starts before StructLen
     expected-same : (g p : ℕ) → (p < struct_len s → Fits s p) → expected s g p ≡ expected t g p
     unfolding expected
-    expected-same g p fit = go (ltb p (struct_len s)) refl ∙ ap (λ (n : ℕ). cond (ltb p n) (when (not (eqb (signature_at t p) g)) p) (At n)) len
+    expected-same g p fit = go (ltb p (struct_len s)) refl ∙ ap (λ (n : ℕ). cond (ltb p n) (when (not (eqb (signature_at t p) g)) p) (Some n)) len
       where
         go : (b : Bool) → ltb p (struct_len s) ≡ b
-            → cond b (when (not (eqb (signature_at s p) g)) p) (At (struct_len s)) ≡ cond b (when (not (eqb (signature_at t p) g)) p) (At (struct_len s))
+            → cond b (when (not (eqb (signature_at s p) g)) p) (Some (struct_len s)) ≡ cond b (when (not (eqb (signature_at t p) g)) p) (Some (struct_len s))
         go true e =
             ap (λ (x : ℕ). when (not (eqb x g)) p) (signature-same s t p (head p (fit (ltb-true p (struct_len s) e))))
         go false e = refl
@@ -147,7 +145,7 @@ module _ (s t : List ℕ) (long : 0x20 ≤ struct_len s) (same : Same s t 0 (str
       unfolding board_at
       board-place-same = next-same s t (map_at s) (head (map_at s) (second-fits m)) ∙ ap (next t) (map-place-same s t long same)
 
-      from-board : search (misplaced s) (next s) (struct_len s) (board_at s) ≡ Nothing
+      from-board : search (misplaced s) (next s) (struct_len s) (board_at s) ≡ None
       unfolding board_at
       from-board = clear-on (misplaced s) (next s) (struct_len s) (next-grows s) (map_at s) (board_at s) m refl from-map
 
@@ -161,7 +159,7 @@ module _ (s t : List ℕ) (long : 0x20 ≤ struct_len s) (same : Same s t 0 (str
       later-same b =
           let l : List ℕ = chain (next s) (struct_len s) (later_at s) in
           first-agree (out_of_order s) (out_of_order t) l
-          (all-map (λ p. misplaced s p ≡ Nothing) (λ p. out_of_order s p ≡ out_of_order t p) (λ p e. order-same p (fits s p e)) l
+          (all-map (λ p. misplaced s p ≡ None) (λ p. out_of_order s p ≡ out_of_order t p) (λ p e. order-same p (fits s p e)) l
           (first-all (misplaced s) l (clear-on (misplaced s) (next s) (struct_len s) (next-grows s) (board_at s) (later_at s) b refl from-board)))
           ∙ ap (first (out_of_order t))
           (walk-same s t long same (later_at s)
@@ -174,7 +172,7 @@ module _ (s t : List ℕ) (long : 0x20 ≤ struct_len s) (same : Same s t 0 (str
         (λ e.
         let m : map_at s < struct_len s = (expected-there s eepr_map (map_at s) e).0 in
         or_else-agree (expected-same brd_info (board_at s) (third-fits m) ∙ ap (expected t brd_info) (board-place-same m))
-        (λ d. ap (λ (f : Found). or_else f Nothing) (later-same m (expected-there s brd_info (board_at s) d).0)))
+        (λ d. ap (λ (f : Found). or_else f None) (later-same m (expected-there s brd_info (board_at s) d).0)))
 
     -- ---- the rules on map, board and `$PromSig`, where rule 25 is not broken either
     -- `$PromSig` lies at one place in both
@@ -185,19 +183,19 @@ module _ (s t : List ℕ) (long : 0x20 ≤ struct_len s) (same : Same s t 0 (str
         (λ p f. ap (λ (g : ℕ). when (eqb g prom_sig) p) (signature-same s t p (head p f)))
 
     -- a rule on it: two tests that agree where it is find the same
-    on-found-same : (f g : ℕ → Found) → ((p : ℕ) → prom_sig_at s ≡ At p → f p ≡ g p) → on_found f (prom_sig_at s) ≡ on_found g (prom_sig_at t)
+    on-found-same : (f g : ℕ → Found) → ((p : ℕ) → prom_sig_at s ≡ Some p → f p ≡ g p) → on_found f (prom_sig_at s) ≡ on_found g (prom_sig_at t)
     on-found-same f g h = go (prom_sig_at s) refl ∙ ap (on_found g) prom-sig-same
       where
         go : (x : Found) → prom_sig_at s ≡ x → on_found f x ≡ on_found g x
-        go (At p) e = h p e
-        go Nothing e = refl
+        go (Some p) e = h p e
+        go None e = refl
 
     -- and the check covers as much
     covered-same : covered s ≡ covered t
     unfolding covered
     covered-same = ap₂ covered_up_to len prom-sig-same
 
-    module _ (order : rule25 s ≡ Nothing) where
+    module _ (order : rule25 s ≡ None) where
       -- map and board fit
       three : Fits s 0 × Fits s (map_at s) × Fits s (board_at s)
       three = first-three s (Fits s) order (walk-fits s walk)
@@ -230,7 +228,7 @@ module _ (s t : List ℕ) (long : 0x20 ≤ struct_len s) (same : Same s t 0 (str
       rule28-same i = when (ltb 4096 ((end-same s t (board_at s) (head (board_at s) board-fits) ∙ ap (end_at t) board-moved) i)) (board-moved i)
 
       -- ---- and where rule 26 is not
-      module _ (heads : rule26 s ≡ Nothing) where
+      module _ (heads : rule26 s ≡ None) where
         rule29-same : rule29 s ≡ rule29 t
         unfolding rule29
         rule29-same =
@@ -260,7 +258,7 @@ module _ (s t : List ℕ) (long : 0x20 ≤ struct_len s) (same : Same s t 0 (str
             ∙ ap (bad_board_type t) board-moved
 
         -- rule 27, where both images are lent whole
-        module _ (header : rule21 s ≡ Nothing) (lent : rule22 s ≡ Nothing) (whole : struct_len s ≤ length s) (other : struct_len s ≤ length t) where
+        module _ (header : rule21 s ≡ None) (lent : rule22 s ≡ None) (whole : struct_len s ≤ length s) (other : struct_len s ≤ length t) where
           check-same : check_over s (covered s) ≡ check_over t (covered t)
           unfolding check_over
           check-same =
@@ -285,8 +283,8 @@ module _ (s t : List ℕ) (long : 0x20 ≤ struct_len s) (same : Same s t 0 (str
     known-same k f g agree =
         along-same (Fits s) (walk-fits s walk) (on_known k s f) (on_known k t g)
         (λ p h.
-        ap (λ (x : Found). cond (knows k (shape_at s p)) x Nothing) (agree p h (shape_at s p))
-        ∙ ap (λ (a : Shape). cond (knows k a) (g p a) Nothing) (shape-same s t p (head p h)))
+        ap (λ (x : Found). cond (knows k (shape_at s p)) x None) (agree p h (shape_at s p))
+        ∙ ap (λ (a : Shape). cond (knows k a) (g p a) None) (shape-same s t p (head p h)))
 
     rule32-same : (k : Kinds) → rule32 k s ≡ rule32 k t
     unfolding rule32
@@ -339,5 +337,5 @@ module _ (s t : List ℕ) (long : 0x20 ≤ struct_len s) (same : Same s t 0 (str
       pub judged-same : (k : Kinds) → judged k s ≡ judged k t
       unfolding judged
       judged-same k =
-          agree-answer (rules k s) (rules k t) (Accepted (length (structures s))) (Accepted (length (structures t))) (rules-same k)
-          (λ _. ap (λ (l : List ℕ). Accepted (length l)) (structures-same s t long same))
+          agree-answer (rules k s) (rules k t) (Ok (length (structures s))) (Ok (length (structures t))) (rules-same k)
+          (λ _. ap (λ (l : List ℕ). Ok (length l)) (structures-same s t long same))

@@ -1,6 +1,6 @@
 -- The judge of board images goes by the paper's table: each rule's search finds the smallest place where its row is broken, given that the rules before it are not,
 -- and so an image is refused with n at p exactly where the first broken row is n, first broken at p, and accepted exactly where no row is. Assumes nothing.
-use Rattle.std.specs.Prelude.{ℕ, List, ◌↔◌, ◌≡◌, length}
+use Rattle.std.specs.Prelude.{ℕ, List, ◌↔◌, ◌≡◌, length, Ok}
 use Rattle.board_layout.specs.Layout.{structures}
 use Rattle.board_rules.specs.Broken.{table}
 use Rattle.board_rules.specs.Judged.{rules, judged}
@@ -13,7 +13,6 @@ use Rattle.board_rules.proofs.laws.BrokenWalk.{finds23, finds24}
 use Rattle.kinds.specs.declared.Kinds.{Kinds}
 use Rattle.verdict.specs.Table.{Unbroken, FirstBroken}
 use Rattle.verdict.specs.Verdict.{refusal}
-use Rattle.verdict.specs.declared.Judged.TheVariants.{Accepted}
 use Rattle.verdict.proofs.laws.Table.{Searched, row}
 use Rattle.verdict.proofs.laws.Table as verdict
 
@@ -32,6 +31,6 @@ module _ (k : Kinds) (s : List ℕ) where
   refused-exactly = verdict.refused-exactly (length (structures s)) (table k s) (rules k s) searched
 
   -- accepted with n: no row is broken, and n structures are counted
-  pub accepted-exactly : (n : ℕ) → (judged k s ≡ Accepted n) ↔ (Unbroken (table k s) × (length (structures s) ≡ n))
+  pub accepted-exactly : (n : ℕ) → (judged k s ≡ Ok n) ↔ (Unbroken (table k s) × (length (structures s) ≡ n))
   unfolding judged
   accepted-exactly = verdict.accepted-exactly (length (structures s)) (table k s) (rules k s) searched

@@ -1,7 +1,7 @@
 -- In an accepted image each known structure holds all fields of its table, up to the reserved one, and known GPIO data are whole records: of header, map and
 -- board by rules 21, 25 and 26, of the later ones by rule 33. Assumes nothing.
 use Prim.Native.Nat.{ℕ, ◌+◌, ◌-◌, ◌%◌, ◌≤◌}
-use Rattle.std.specs.Prelude.{Bool, true, false, not, cond, ◌||◌, ◌≡◌, refl, eqb, ltb}
+use Rattle.std.specs.Prelude.{Bool, true, false, not, cond, ◌||◌, ◌≡◌, refl, eqb, ltb, Some, None, Ok}
 use Rattle.std.proofs.lemmas.Bool.{false≢true}
 use mathlib.Core.List.{List, [], ◌∷◌}
 use Rattle.std.proofs.Common.{sym, arith, ltb-false}
@@ -23,12 +23,10 @@ use Rattle.board_rules.proofs.laws.Fields.{inside-good}
 use Rattle.chain.specs.All.{All}
 use Rattle.chain.specs.Chain.{chain}
 use Rattle.chain.specs.First.{first, when}
-use Rattle.chain.specs.declared.Found.TheVariants.{At, Nothing}
 use Rattle.chain.proofs.laws.All.{all-map, all-both}
 use Rattle.chain.proofs.laws.First.{at-nothing, first-all, when-nothing, or_else-left}
 use Rattle.kinds.specs.Signatures.{eeprom, eepr_map, brd_info, prom_sig, acpi_tbl, fpga_nfo, gpio_dat, hd_codec, logo, mem_cnfg, mac_info, u_code, video}
 use Rattle.kinds.specs.declared.Kinds.{Kinds}
-use Rattle.verdict.specs.declared.Judged.TheVariants.{Accepted}
 
 -- ---- the tables: where their rows Reserved end
 -- what holds of both answers of a test, of the first where the test holds
@@ -67,19 +65,19 @@ later-rows g major a =
 
 -- ---- rule 33 at a structure
 -- it is not broken: the fixed part is there, and the fields are good
-pub inside-kept : (s : List ℕ) (p : ℕ) (a : Shape) → bad_inside s p a ≡ Nothing → (fixed_part a ≤ length_at s p) × (bad_fields s p a ≡ Nothing)
+pub inside-kept : (s : List ℕ) (p : ℕ) (a : Shape) → bad_inside s p a ≡ None → (fixed_part a ≤ length_at s p) × (bad_fields s p a ≡ None)
 unfolding bad_inside
 inside-kept s p a e = go (ltb (length_at s p) (fixed_part a)) refl e
   where
-    go : (b : Bool) → ltb (length_at s p) (fixed_part a) ≡ b → cond b (At p) (bad_fields s p a) ≡ Nothing
-        → (fixed_part a ≤ length_at s p) × (bad_fields s p a ≡ Nothing)
+    go : (b : Bool) → ltb (length_at s p) (fixed_part a) ≡ b → cond b (Some p) (bad_fields s p a) ≡ None
+        → (fixed_part a ≤ length_at s p) × (bad_fields s p a ≡ None)
     go true d c = absurd (at-nothing c)
     go false d c = (ltb-false (length_at s p) (fixed_part a) d, c)
 
 module _ (k : Kinds) (s : List ℕ) where
   -- a known structure breaks rule 33 nowhere
   abbrev Inside : ℕ → Type 0
-  Inside p = knows k (shape_at s p) ≡ true → bad_inside s p (shape_at s p) ≡ Nothing
+  Inside p = knows k (shape_at s p) ≡ true → bad_inside s p (shape_at s p) ≡ None
 
   -- the fields of a known structure lie within its Length
   abbrev pub Holds : ℕ → Type 0
@@ -91,7 +89,7 @@ module _ (k : Kinds) (s : List ℕ) where
       knows k (shape_at s p) ≡ true → shape_at s p ≡ GpioDat → All (λ r. (p + data_offset Gpio ≤ r) × (r + record_size Gpio ≤ end_at s p)) (records Gpio s p)
 
 -- ---- in an accepted image
-module _ (k : Kinds) (s : List ℕ) (n : ℕ) (e : judged k s ≡ Accepted n) where
+module _ (k : Kinds) (s : List ℕ) (n : ℕ) (e : judged k s ≡ Ok n) where
   -- the first three, by their signatures
   header-holds : Holds k s 0
   unfolding shape_at shape_of
@@ -106,7 +104,7 @@ module _ (k : Kinds) (s : List ℕ) (n : ℕ) (e : judged k s ≡ Accepted n) wh
   board-holds h = rw (board-third k s n e).1 (omega (arith, (board-head k s n e).1))
 
   -- a later one
-  later-holds : (p : ℕ) → out_of_order s p ≡ Nothing → Inside k s p → Holds k s p
+  later-holds : (p : ℕ) → out_of_order s p ≡ None → Inside k s p → Holds k s p
   unfolding out_of_order shape_at
   later-holds p o i h =
       let g : ℕ = signature_at s p in
@@ -127,7 +125,7 @@ module _ (k : Kinds) (s : List ℕ) (n : ℕ) (e : judged k s ≡ Accepted n) wh
           map-holds,
           (
             board-holds,
-            all-both (λ p. out_of_order s p ≡ Nothing) (Inside k s) (Holds k s) later-holds later (first-all (out_of_order s) later order.1.1.0)
+            all-both (λ p. out_of_order s p ≡ None) (Inside k s) (Holds k s) later-holds later (first-all (out_of_order s) later order.1.1.0)
                 inside.1.1.1,
           ),
         ),
@@ -137,7 +135,7 @@ module _ (k : Kinds) (s : List ℕ) (n : ℕ) (e : judged k s ≡ Accepted n) wh
   whole : (p : ℕ) → Inside k s p → Whole k s p
   unfolding bad_gpio
   whole p i h g =
-      let t = inside-kept s p GpioDat (subst (λ (a : Shape). bad_inside s p a ≡ Nothing) g (i h)) in
+      let t = inside-kept s p GpioDat (subst (λ (a : Shape). bad_inside s p a ≡ None) g (i h)) in
       let d : (length_at s p - GpioData) % gpio_record_size ≡ 0 = kept-equal ((length_at s p - GpioData) % gpio_record_size) 0 p
       (or_else-left (when (not (eqb ((length_at s p - GpioData) % gpio_record_size) 0)) p) _ t.1) in
       records-fit Gpio s p t.0 d

@@ -1,6 +1,6 @@
 -- What rules 23 and 24 tell of a structure: it has its room, its '$' and its head, it ends by StructLen, and either ends there or another follows; and the
 -- bytes up to that one are zero. With rule 25: the structures are the header, the map, the board, and later ones. Assumes nothing.
-use Rattle.std.specs.Prelude.{ℕ, ◌+◌, ◌-◌, ◌≤◌, ◌<◌, Bool, true, false, not, ◌&&◌, ◌⊎◌, ◌≡◌, eqb, ltb}
+use Rattle.std.specs.Prelude.{ℕ, ◌+◌, ◌-◌, ◌≤◌, ◌<◌, Bool, true, false, not, ◌&&◌, ◌⊎◌, ◌≡◌, eqb, ltb, Some, None}
 use Rattle.std.proofs.Math.Bool.{cond}
 use Rattle.std.proofs.lemmas.Bool.{false≢true, lt-leb}
 use mathlib.Core.List.{List, [], ◌∷◌}
@@ -15,8 +15,7 @@ use Rattle.board_rules.proofs.laws.Order.{map-second, board-third}
 use Rattle.chain.specs.All.{All}
 use Rattle.chain.specs.Chain.{chain}
 use Rattle.chain.specs.First.{when}
-use Rattle.chain.specs.declared.Found.{Found}
-use Rattle.chain.specs.declared.Found.TheVariants.{At, Nothing}
+use Rattle.chain.specs.Found.{Found}
 use Rattle.chain.proofs.laws.All.{all-map}
 use Rattle.chain.proofs.laws.Chain.{chain-more}
 use Rattle.chain.proofs.laws.Checks.{checks-none, none-checks, kept-equal, kept-under}
@@ -55,7 +54,7 @@ module _ (s : List ℕ) where
   goes-on p false false d c e = inr (leb-false (struct_len s) (next s p) c)
 
   -- a structure that is not misplaced fits
-  pub fits : (p : ℕ) → misplaced s p ≡ Nothing → Fits s p
+  pub fits : (p : ℕ) → misplaced s p ≡ None → Fits s p
   unfolding misplaced
   fits p e =
       let t = checks-none (walk_checks p) e in
@@ -70,16 +69,16 @@ module _ (s : List ℕ) where
       }
 
   -- none is due that is not there
-  none-due : (p : ℕ) → (end_at s p ≡ struct_len s) ⊎ (next s p < struct_len s) → overdue s p ≡ Nothing
+  none-due : (p : ℕ) → (end_at s p ≡ struct_len s) ⊎ (next s p < struct_len s) → overdue s p ≡ None
   none-due p (inl h) = rw (eq-eqb (end_at s p) (struct_len s) h)
   none-due p (inr h) = go (eqb (end_at s p) (struct_len s))
     where
-      go : (a : Bool) → when (not a && leb (struct_len s) (next s p)) (next s p) ≡ Nothing
+      go : (a : Bool) → when (not a && leb (struct_len s) (next s p)) (next s p) ≡ None
       go true = refl
       go false = ap (λ (b : Bool). when b (next s p)) (lt-leb (struct_len s) (next s p) h)
 
   -- and one that fits is not misplaced
-  pub fits-clear : (p : ℕ) → Fits s p → misplaced s p ≡ Nothing
+  pub fits-clear : (p : ℕ) → Fits s p → misplaced s p ≡ None
   unfolding misplaced
   fits-clear p f =
       none-checks (walk_checks p) (
@@ -94,12 +93,12 @@ module _ (s : List ℕ) where
       )
 
   -- rule 23 is not broken: each structure fits
-  pub walk-fits : rule23 s ≡ Nothing → All (Fits s) (structures s)
+  pub walk-fits : rule23 s ≡ None → All (Fits s) (structures s)
   unfolding rule23
-  walk-fits e = all-map (λ p. misplaced s p ≡ Nothing) (Fits s) fits (structures s) (first-all (misplaced s) (structures s) e)
+  walk-fits e = all-map (λ p. misplaced s p ≡ None) (Fits s) fits (structures s) (first-all (misplaced s) (structures s) e)
 
   -- a `$PromSig` that is found fits
-  pub prom-sig-fits : rule23 s ≡ Nothing → (p : ℕ) → prom_sig_at s ≡ At p → Fits s p
+  pub prom-sig-fits : rule23 s ≡ None → (p : ℕ) → prom_sig_at s ≡ Some p → Fits s p
   unfolding prom_sig_at
   prom-sig-fits e p d =
       let h : Hit (is_prom_sig s) (structures s) p = first-hit (is_prom_sig s) (structures s) p d in
@@ -111,21 +110,21 @@ module _ (s : List ℕ) where
   GapZero p = (end_at s p ≡ struct_len s → ⊥) → (q : ℕ) → end_at s p ≤ q → q < next s p → byte s q ≡ 0
 
   -- they are zero after a structure that does not break it
-  gap-clear : (p : ℕ) → gap_used s p ≡ Nothing → GapZero p
+  gap-clear : (p : ℕ) → gap_used s p ≡ None → GapZero p
   unfolding gap_used
   gap-clear p e more q h l =
       subst (λ (x : ℕ). byte s x ≡ 0) (omega arith)
       (nonzero-none s (end_at s p) 0 (next s p - end_at s p)
-      (subst (λ (b : Bool). cond b Nothing (nonzero s (end_at s p) 0 (next s p - end_at s p)) ≡ Nothing) (ne_eqb (end_at s p) (struct_len s) more) e)
+      (subst (λ (b : Bool). cond b None (nonzero s (end_at s p) 0 (next s p - end_at s p)) ≡ None) (ne_eqb (end_at s p) (struct_len s) more) e)
       (q - end_at s p) (omega arith) (omega arith))
 
   -- rule 24 is not broken: all of them are zero
-  pub gap-zero : rule24 s ≡ Nothing → All GapZero (structures s)
+  pub gap-zero : rule24 s ≡ None → All GapZero (structures s)
   unfolding rule24
-  gap-zero e = all-map (λ p. gap_used s p ≡ Nothing) GapZero gap-clear (structures s) (first-all (gap_used s) (structures s) e)
+  gap-zero e = all-map (λ p. gap_used s p ≡ None) GapZero gap-clear (structures s) (first-all (gap_used s) (structures s) e)
 
   -- ---- rule 25: the structures are the header, the map, the board, and those after them
-  pub structures-are : rule25 s ≡ Nothing → structures s ≡ 0 ∷ map_at s ∷ board_at s ∷ chain (next s) (struct_len s) (later_at s)
+  pub structures-are : rule25 s ≡ None → structures s ≡ 0 ∷ map_at s ∷ board_at s ∷ chain (next s) (struct_len s) (later_at s)
   unfolding map_at board_at later_at
   structures-are e =
       chain-more (next s) (struct_len s) (next-grows s) 0 (omega (arith, (map-second s e).0))
@@ -134,5 +133,5 @@ module _ (s : List ℕ) where
       ∙ ap (λ (l : List ℕ). map_at s ∷ l) (chain-more (next s) (struct_len s) (next-grows s) (board_at s) (board-third s e).0))
 
   -- what holds of each structure holds of the header, the map and the board
-  pub first-three : (P : ℕ → Type 0) → rule25 s ≡ Nothing → All P (structures s) → P 0 × P (map_at s) × P (board_at s)
+  pub first-three : (P : ℕ → Type 0) → rule25 s ≡ None → All P (structures s) → P 0 × P (map_at s) × P (board_at s)
   first-three P e a = let t = subst (All P) (structures-are e) a in (t.0, t.1.0, t.1.1.0)

@@ -1,7 +1,7 @@
 -- The parts that are read of an image are those it was made of, whatever its check fields are and whatever bytes follow it. Assumes nothing.
 use Prim.Native.Nat.{ℕ, ◌+◌, ◌-◌, ◌*◌, ◌%◌, ◌≤◌, ◌<◌}
 use mathlib.Core.List.{List, [], ◌∷◌, ◌++◌, flatten}
-use Rattle.std.specs.Prelude.{◌≡◌, length}
+use Rattle.std.specs.Prelude.{◌≡◌, length, None}
 use Rattle.std.proofs.Math.Path.{ap, ap₂}
 use Rattle.std.proofs.Common.{◌∙◌, arith}
 use Rattle.board.specs.Items.{eeprom_at, eepr_map_at, brd_info_at}
@@ -15,21 +15,18 @@ use Rattle.board_writer.specs.PartsOf.{map_given, record_given, records_of, furt
 use Rattle.board_writer.proofs.laws.Blocks.{record-lies}
 use Rattle.board_writer.proofs.laws.Fields.{version-read, map-read, board-read, further-read}
 use Rattle.board_writer.proofs.laws.Length.{record_block}
-use Rattle.octets.proofs.laws.Lies.{Lies, sixteen-in}
+use Rattle.octets.proofs.laws.Lies.{Lies, run-in}
 use Rattle.board_writer.proofs.laws.MapRecords.{run-records}
 use Rattle.octets.proofs.laws.Pieces.{flat-runs}
 use Rattle.board_writer.proofs.laws.Places.{header-head, map-head, struct-len-is, map-at, board-at, board-end}
 use Rattle.chain.specs.Fill.{tab}
-use Rattle.chain.specs.declared.Found.TheVariants.{Nothing}
 use Rattle.chain.proofs.laws.Checks.{kept-equal}
 use Rattle.chain.proofs.laws.Fill.{tab-agree}
 use Rattle.octets.specs.Bytes.{run, spelled}
-use Rattle.octets.specs.Runs.{sixteen_at, sixteen_bytes}
-use Rattle.octets.specs.declared.Sixteen.{Sixteen}
 use Rattle.octets.proofs.laws.Bytes.{run-all}
 
 -- whole seventeens are given: as many as the records take
-pub records-whole : (x : Parts) → rule46 x ≡ Nothing → record_count x * given_size ≡ length x.records
+pub records-whole : (x : Parts) → rule46 x ≡ None → record_count x * given_size ≡ length x.records
 records-whole x e = omega (arith, kept-equal (length x.records % given_size) 0 0 e)
 
 module _ (x : Parts) (check covers : ℕ) (rest : List ℕ) (small : image_length x < 0x1_0000_0000) where
@@ -38,17 +35,17 @@ module _ (x : Parts) (check covers : ℕ) (rest : List ℕ) (small : image_lengt
 
   -- record k, as the run has it
   record-given : (k : ℕ) → k < record_count x → record_given (map_record_at s (record_place x k)) ≡ run x.records (0 + k * given_size) given_size
-  unfolding map_record_at laid_record sixteen_at spelled tab
+  unfolding map_record_at laid_record spelled tab
   record-given k h =
       let r : ℕ = record_place x k in
       let one : List ℕ = record_block x k in
       let lies : Lies s r one = record-lies x check covers rest k h in
-      ap₂ (λ (label : Sixteen) (address : ℕ). sixteen_bytes label ++ (address ∷ [])) (sixteen-in s r one lies MapLabel (omega arith))
+      ap₂ (λ (label : List ℕ) (address : ℕ). label ++ (address ∷ [])) (run-in s r one lies MapLabel 16 (omega arith))
       (lies Address (omega arith))
       ∙ ap (λ (p : ℕ). run x.records p given_size) (omega arith)
 
   -- all of them, where whole seventeens are given
-  records-back : rule46 x ≡ Nothing → records_of s ≡ x.records
+  records-back : rule46 x ≡ None → records_of s ≡ x.records
   records-back good =
       run-records s (map_place x) (record_count x) (omega (arith, (map-head x check covers rest small).length)) (map-at x check covers rest small)
       ∙ ap flatten
@@ -66,7 +63,7 @@ module _ (x : Parts) (check covers : ℕ) (rest : List ℕ) (small : image_lengt
       ∙ ap (run s (further_place x)) count ∙ further-read x check covers rest
 
   -- all of it
-  pub parts-back : Fits x → rule46 x ≡ Nothing → parts_of s ≡ x
+  pub parts-back : Fits x → rule46 x ≡ None → parts_of s ≡ x
   unfolding parts_of eeprom_at
   parts-back fits good i =
       record {
@@ -79,6 +76,6 @@ module _ (x : Parts) (check covers : ℕ) (rest : List ℕ) (small : image_lengt
       }
 
 -- so it is of the image that is made
-pub parts-image : (x : Parts) (rest : List ℕ) → Fits x → rule46 x ≡ Nothing → image_length x ≤ 65536 → parts_of (image x ++ rest) ≡ x
+pub parts-image : (x : Parts) (rest : List ℕ) → Fits x → rule46 x ≡ None → image_length x ≤ 65536 → parts_of (image x ++ rest) ≡ x
 unfolding image
 parts-image x rest fits good small = parts-back x (check x) (crc_length x) rest (omega arith) fits good

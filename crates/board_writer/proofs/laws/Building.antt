@@ -33,10 +33,10 @@ header-whole Short end check covers version = refl
 header-whole Long end check covers version = refl
 
 pub header-part : (h : Header) (end check covers version n : ℕ) (bytes : List ℕ) → n ≡ header_length h
-    → bytes ≡ header_of h end check covers version ++ zeros (0x30 - header_length h) → take (n - 0) bytes ≡ header_of h end check covers version
+    → bytes ≡ header_of h end check covers version ++ zeros (0x30 - header_length h) → take n bytes ≡ header_of h end check covers version
 header-part h end check covers version n bytes e d =
     let header : List ℕ = header_of h end check covers version in
-    let k : n - 0 ≡ length header = omega (arith, header-length h end check covers version) in
+    let k : n ≡ length header = omega (arith, header-length h end check covers version) in
     ap₂ take k d ∙ take-append_seam header (zeros (0x30 - header_length h))
 
 -- ---- the records, laid from a place on behind what is there
@@ -116,7 +116,7 @@ module _ (x : Parts) (image : List ℕ) (fits : image_length x ≤ 65536) (long 
   records = laid_records x.records x.map.blklength (record_count x)
 
   pub holds-map : (one head : List ℕ) → head ≡ map → one ≡ put head start image → Holds one (map_place x + MapData) (front ++ map) 65536
-  unfolding spelled
+  unfolding spelled tab
   holds-map one head h e =
       holds-next image front map one head (map_place x) start (map_place x + MapData) 65536 here refl (omega arith) h e (record { front = refl; long = long })
 
@@ -132,7 +132,7 @@ module _ (x : Parts) (image : List ℕ) (fits : image_length x ≤ 65536) (long 
       → Holds two (start + MapData + map_record_size * record_count x) (take (start + MapData) one ++ records) 65536
       → at ≡ start + map_length x → board ≡ board_of x.board → three ≡ put board at two → four ≡ put x.further (at + 0x60) three
       → Holds four (image_length x) (front ++ body x) 65536
-  unfolding spelled
+  unfolding spelled tab
   holds-body one two three four head board at h e held a b d c =
       let second : Holds two (map_place x + MapData + map_record_size * record_count x) (front ++ map ++ records) 65536 =
       subst (λ (l : List ℕ). Holds two (map_place x + MapData + map_record_size * record_count x) (l ++ records) 65536) (holds-map one head h e).front

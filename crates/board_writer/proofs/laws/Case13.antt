@@ -1,5 +1,5 @@
 -- The theorems at case 13, with the long header and with the short one: their premises are met there. Assumes nothing.
-use Rattle.std.specs.Prelude.{ℕ, ◌<◌, List, [], ◌++◌, ◌≡◌, refl, ltb, take}
+use Rattle.std.specs.Prelude.{ℕ, ◌<◌, List, [], ◌++◌, ◌≡◌, refl, ltb, take, None}
 use Rattle.std.proofs.Common.{ap, arith}
 use Rattle.board_layout.specs.Layout.{round16, next, map_at, board_at}
 use Rattle.board_layout.specs.declared.Header.{Header}
@@ -20,16 +20,14 @@ use Rattle.board_writer.proofs.laws.Written.{written-reads-back, buffer-reads-ba
 use Rattle.chain.specs.Chain.{visit, chain}
 use Rattle.chain.specs.Fill.{tab}
 use Rattle.chain.specs.First.{first, when}
-use Rattle.chain.specs.declared.Found.TheVariants.{Nothing}
 use Rattle.chain.proofs.laws.All.{all-map}
 use Rattle.chain.proofs.laws.Checks.{kept-under}
 use Rattle.chain.proofs.laws.First.{first-all}
 use Rattle.kinds.specs.Kinds.{bare}
 use Rattle.octets.specs.Bytes.{Octets, le16, le32, le64}
-use Rattle.octets.specs.Runs.{sixteen_bytes}
 use Rattle.octets.proofs.laws.Bytes.{all-octets}
 use Rattle.verdict.specs.Said.{says, write_said}
-use Rattle.verdict.specs.declared.WriteAnswer.{WriteAnswer}
+use Rattle.verdict.specs.Answers.{WriteAnswer}
 
 -- ---- what is written reads back
 -- each number fits its field
@@ -43,6 +41,10 @@ fits13 h =
       board_id = omega arith;
       fab_id = omega arith;
       ec_id = omega arith;
+      part_label = refl;
+      manu_name = refl;
+      brd_name = refl;
+      brd_serial = refl;
     }
 
 -- a length is answered
@@ -74,10 +76,10 @@ rebuildable13 =
     (record { unsigned = refl; header = refl; map = refl; board = refl }, record { unsigned = refl; header = refl; map = refl; board = refl })
 
 -- a list whose elements are not over 255
-small : (l : List ℕ) → first (λ b. when (ltb 255 b) b) l ≡ Nothing → Octets l
+small : (l : List ℕ) → first (λ b. when (ltb 255 b) b) l ≡ None → Octets l
 small l e =
     all-octets l
-    (all-map (λ b. when (ltb 255 b) b ≡ Nothing) (λ b. b < 256) (λ b h. omega (arith, kept-under 255 b b h)) l
+    (all-map (λ b. when (ltb 255 b) b ≡ None) (λ b. b < 256) (λ b h. omega (arith, kept-under 255 b b h)) l
     (first-all (λ b. when (ltb 255 b) b) l e))
 
 octets13 : Octets image13 × Octets image_short
@@ -100,19 +102,19 @@ given13 : (h : Header) → OfBytes (behind h record13 [])
 unfolding first
 given13 h =
     record {
-      part_label = small (sixteen_bytes parts13.map.partlabel) refl;
+      part_label = small (parts13.map.partlabel) refl;
       bus_number = omega arith;
       master = omega arith;
       speed = omega arith;
       records = small parts13.records refl;
-      manu_name = small (sixteen_bytes parts13.board.manuname) refl;
-      brd_name = small (sixteen_bytes parts13.board.brdname) refl;
-      brd_serial = small (sixteen_bytes parts13.board.brdserial) refl;
+      manu_name = small (parts13.board.manuname) refl;
+      brd_name = small (parts13.board.brdname) refl;
+      brd_serial = small (parts13.board.brdserial) refl;
       board_type = omega arith;
       further = small parts13.further refl;
     }
 
-check13 : (rule27 (image parts13) ≡ Nothing) × (rule27 (image short13) ≡ Nothing)
+check13 : (rule27 (image parts13) ≡ None) × (rule27 (image short13) ≡ None)
 check13 = (
   check-fields-hold parts13 (omega arith) (body-octets parts13 (given13 Long)),
   check-fields-hold short13 (omega arith) (body-octets short13 (given13 Short)),

@@ -3,7 +3,7 @@
 use Prim.Native.Nat.{ℕ, ◌+◌, ◌-◌, ◌≤◌, ◌<◌}
 use mathlib.Core.List.{List, ◌++◌}
 use Rattle.std.proofs.Common.{inl, inr, ◌∙◌, arith, length-take, get_or-take, get_or-append-add}
-use Rattle.std.specs.Prelude.{◌≡◌, length, take}
+use Rattle.std.specs.Prelude.{◌≡◌, length, take, Ok}
 use Rattle.std.proofs.Math.Path.{refl, sym, ap, ap₂}
 use Rattle.std.proofs.Math.ListN.{get_or-append}
 use Rattle.board_layout.specs.Layout.{header_length}
@@ -24,7 +24,6 @@ use Rattle.kinds.specs.declared.Kinds.{Kinds}
 use Rattle.octets.specs.Bytes.{byte, spelled, le32}
 use Rattle.octets.proofs.laws.Bytes.{byte-past}
 use Rattle.octets.proofs.laws.Spelled.{little-spelled}
-use Rattle.verdict.specs.declared.Judged.TheVariants.{Accepted}
 
 -- ---- two lists that differ in a middle part only
 -- have the same bytes before it
@@ -82,7 +81,7 @@ module _ (x : Parts) where
       (λ q h. taken n s t q refl (behind front (spelled 4 0) (spelled 4 c) more refl q h)))
 
   -- so check fields with which the image is accepted are those that are worked out
-  pub image-accepted : (k : Kinds) (c l n : ℕ) → judged k (laid x c l) ≡ Accepted n → le32 (laid x c l) Crc32 ≡ c → le32 (laid x c l) CrcLength ≡ l
+  pub image-accepted : (k : Kinds) (c l n : ℕ) → judged k (laid x c l) ≡ Ok n → le32 (laid x c l) Crc32 ≡ c → le32 (laid x c l) CrcLength ≡ l
       → image x ≡ laid x c l
   unfolding image check
   image-accepted k c l n e first second =

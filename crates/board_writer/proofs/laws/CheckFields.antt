@@ -1,7 +1,7 @@
 -- The check fields of the image that is made are right: rule 27 is not broken, also where the further bytes end in a `$PromSig`. What it expects is not read
 -- from the check fields, and both numbers fit their fields. Assumes nothing.
 use Prim.Native.Nat.{ℕ, ◌+◌, ◌≤◌, ◌<◌}
-use Rattle.std.specs.Prelude.{Bool, not, ◌≡◌, refl, take, drop}
+use Rattle.std.specs.Prelude.{Bool, not, ◌≡◌, refl, take, drop, Some, None}
 use mathlib.Core.List.{List, [], ◌∷◌, ◌++◌, map, append-nil}
 use Rattle.std.proofs.Common.{sym, ◌∙◌, arith, eq-eqb}
 use Rattle.std.proofs.Math.Path.{ap, ap₂}
@@ -18,8 +18,7 @@ use Rattle.board_writer.proofs.laws.Fields.{check-read, covers-read}
 use Rattle.board_writer.proofs.laws.Octets.{laid-octets}
 use Rattle.board_writer.proofs.laws.Places.{struct-len-is}
 use Rattle.chain.specs.First.{checks, when}
-use Rattle.chain.specs.declared.Found.{Found}
-use Rattle.chain.specs.declared.Found.TheVariants.{At, Nothing}
+use Rattle.chain.specs.Found.{Found}
 use Rattle.crc.specs.Blank.{blank}
 use Rattle.crc.proofs.laws.Crc32.{crc32-below}
 use Rattle.octets.specs.Bytes.{Octets, le32}
@@ -45,8 +44,8 @@ unfolding covered
 covered-small s h = go (prom_sig_at s) refl
   where
     go : (f : Found) → prom_sig_at s ≡ f → covered_up_to (struct_len s) f < 0x1_0000_0000
-    go (At p) e = omega (arith, prom-sig-below s p e)
-    go Nothing e = omega arith
+    go (Some p) e = omega (arith, prom-sig-below s p e)
+    go None e = omega arith
 
 pub covers-small : (x : Parts) → image_length x ≤ 65536 → crc_length x < 0x1_0000_0000
 unfolding crc_length
@@ -68,7 +67,7 @@ module _ (x : Parts) (most : image_length x ≤ 65536) (octets : Octets (body x)
       )
 
   -- so rule 27 is not broken
-  pub check-fields-hold : rule27 (image x) ≡ Nothing
+  pub check-fields-hold : rule27 (image x) ≡ None
   unfolding rule27
   check-fields-hold =
       let s : List ℕ = image x in

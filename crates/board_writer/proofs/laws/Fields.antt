@@ -15,11 +15,11 @@ use Rattle.board_writer.specs.Parts.{Parts, Fits, record_count}
 use Rattle.board_writer.specs.Shown.{map_shown, record_shown}
 use Rattle.board_writer.proofs.laws.Blocks.{header-lies, map-lies, record-lies, board-lies, further-lies}
 use Rattle.board_writer.proofs.laws.Length.{header_block, map_block, record_block, board_block, header-long}
-use Rattle.octets.proofs.laws.Lies.{Lies, lies-run, le16-in, le32-in, sixteen-in}
+use Rattle.octets.proofs.laws.Lies.{Lies, lies-run, le16-in, le32-in, run-in}
 use Rattle.board_writer.proofs.laws.Places.{map-head}
 use Rattle.chain.specs.Fill.{tab}
 use Rattle.octets.specs.Bytes.{run, spelled, le16, le32}
-use Rattle.octets.specs.Runs.{sixteen_at}
+use Rattle.octets.proofs.laws.Bytes.{sixteen-all}
 use Rattle.octets.proofs.laws.Spelled.{little-spelled}
 
 module _ (x : Parts) (check covers : ℕ) (rest : List ℕ) where
@@ -49,12 +49,12 @@ module _ (x : Parts) (check covers : ℕ) (rest : List ℕ) where
 
   -- the map, up to its records
   pub map-read : image_length x < 0x1_0000_0000 → Fits x → eepr_map_at s (map_place x) ≡ map_shown x
-  unfolding eepr_map_at sixteen_at spelled le16 le32 tab
+  unfolding eepr_map_at spelled le16 le32 tab
   map-read small fits i =
       let map : List ℕ = map_block x in
       let lies : Lies s (map_place x) map = map-lies x check covers rest in
       record {
-        partlabel = sixteen-in s (map_place x) map lies PartLabel (omega arith) i;
+        partlabel = (run-in s (map_place x) map lies PartLabel 16 (omega arith) ∙ sixteen-all x.map.partlabel fits.part_label) i;
         blklength = (le32-in s (map_place x) map lies BlkLength (omega arith) ∙ little-spelled 4 x.map.blklength fits.blk_length) i;
         pagesize = (le16-in s (map_place x) map lies PageSize (omega arith) ∙ little-spelled 2 x.map.pagesize fits.page_size) i;
         partsize = (le32-in s (map_place x) map lies PartSize (omega arith) ∙ little-spelled 4 x.map.partsize fits.part_size) i;
@@ -66,13 +66,13 @@ module _ (x : Parts) (check covers : ℕ) (rest : List ℕ) where
 
   -- a record whose Offset fits its field
   pub record-read : (k : ℕ) → k < record_count x → k * x.map.blklength < 0x1_0000_0000 → map_record_at s (record_place x k) ≡ record_shown x k
-  unfolding map_record_at laid_record sixteen_at spelled le32 tab
+  unfolding map_record_at laid_record spelled le32 tab
   record-read k h offset i =
       let r : ℕ = record_place x k in
       let one : List ℕ = record_block x k in
       let lies : Lies s r one = record-lies x check covers rest k h in
       record {
-        maplabel = sixteen-in s r one lies MapLabel (omega arith) i;
+        maplabel = run-in s r one lies MapLabel 16 (omega arith) i;
         length = le32-in s r one lies MapLength (omega arith) i;
         offset = record { 0 = (le32-in s r one lies MapOffset (omega arith) ∙ little-spelled 4 (k * x.map.blklength) offset) i };
         address = record { 0 = lies Address (omega arith) i };
@@ -80,15 +80,15 @@ module _ (x : Parts) (check covers : ℕ) (rest : List ℕ) where
 
   -- the board
   pub board-read : Fits x → brd_info_at s (board_place x) ≡ x.board
-  unfolding brd_info_at sixteen_at spelled le32 tab
+  unfolding brd_info_at spelled le32 tab
   board-read fits i =
       let b : ℕ = board_place x in
       let board : List ℕ = board_block x in
       let lies : Lies s b board = board-lies x check covers rest in
       record {
-        manuname = sixteen-in s b board lies ManuName (omega arith) i;
-        brdname = sixteen-in s b board lies BrdName (omega arith) i;
-        brdserial = sixteen-in s b board lies BrdSerial (omega arith) i;
+        manuname = (run-in s b board lies ManuName 16 (omega arith) ∙ sixteen-all x.board.manuname fits.manu_name) i;
+        brdname = (run-in s b board lies BrdName 16 (omega arith) ∙ sixteen-all x.board.brdname fits.brd_name) i;
+        brdserial = (run-in s b board lies BrdSerial 16 (omega arith) ∙ sixteen-all x.board.brdserial fits.brd_serial) i;
         boardid = (le32-in s b board lies BoardId (omega arith) ∙ little-spelled 4 x.board.boardid fits.board_id) i;
         fabid = (le32-in s b board lies FabId (omega arith) ∙ little-spelled 4 x.board.fabid fits.fab_id) i;
         ecid = (le32-in s b board lies EcId (omega arith) ∙ little-spelled 4 x.board.ecid fits.ec_id) i;

@@ -11,10 +11,11 @@ use Rattle.board_writer.specs.Image.{head, header_of, map_of, record_of, board_o
 use Rattle.board_writer.specs.PartsOf.{map_given}
 use Rattle.board_writer.proofs.laws.Places.{Head}
 use Rattle.board_writer.proofs.laws.Read.{beside, one-run, zeros-run, two-run, four-run, eight-run}
+use Rattle.chain.specs.Fill.{tab}
 use Rattle.kinds.specs.Signatures.{eeprom, eepr_map, brd_info}
 use Rattle.octets.specs.Bytes.{byte, Octets, run, spelled, le16, le32, le64}
-use Rattle.octets.specs.Runs.{sixteen_at}
-use Rattle.octets.proofs.laws.Runs.{bytes-sixteen}
+use Rattle.octets.specs.Runs.{sixteen}
+use Rattle.octets.proofs.laws.Bytes.{length-run, sixteen-all}
 
 -- the bytes from one offset up to another are zero
 abbrev pub Zero : List ℕ → ℕ → ℕ → ℕ → Type 0
@@ -33,17 +34,21 @@ module _ (s : List ℕ) (octets : Octets s) (p : ℕ) where
   four-at : (a : ℕ) → spelled 4 (le32 s (p + a)) ≡ run s (p + a) 4
   four-at a = four-run s octets (p + a) (le32 s (p + a)) refl
 
+  -- a label or a name at an offset
+  label-run : (a : ℕ) → sixteen (run s (p + a) 16) ≡ run s (p + a) 16
+  label-run a = sixteen-all (run s (p + a) 16) (length-run s (p + a) 16)
+
   -- a block from offset 0 on starts at p
   from-start : (n : ℕ) {x : List ℕ} → x ≡ run s (p + 0) n → x ≡ run s p n
   from-start n e = e ∙ ap (λ (q : ℕ). run s q n) (add-zero p)
 
   -- the map's fields
   pub map-run : (n : ℕ) → Head s p eepr_map n → Zero s p 0x2D 0x30 → map_of n (map_given (eepr_map_at s p)) ≡ run s p 0x30
-  unfolding eepr_map_at spelled
+  unfolding eepr_map_at spelled tab le16 le32
   map-run n h zero =
       from-start 0x30
       (beside s p 0 16 32 (head-run eepr_map n h)
-      (beside s p PartLabel 16 16 (bytes-sixteen s (p + PartLabel))
+      (beside s p PartLabel 16 16 (label-run PartLabel)
       (beside s p BlkLength 4 12 (four-at BlkLength)
       (beside s p PageSize 2 10 (two-run s octets (p + PageSize) (le16 s (p + PageSize)) refl)
       (beside s p PartSize 4 6 (four-at PartSize)
@@ -53,24 +58,24 @@ module _ (s : List ℕ) (octets : Octets s) (p : ℕ) where
 
   -- a map record
   pub record-run : (offset : ℕ) → le32 s (p + MapLength) ≡ map_record_size → le32 s (p + MapOffset) ≡ offset → Zero s p 0x19 0x20
-      → record_of (sixteen_at s (p + MapLabel)) offset (byte s (p + Address)) ≡ run s p 0x20
-  unfolding spelled
+      → record_of (run s (p + MapLabel) 16) offset (byte s (p + Address)) ≡ run s p 0x20
+  unfolding spelled tab
   record-run offset size place zero =
       from-start 0x20
-      (beside s p MapLabel 16 16 (bytes-sixteen s (p + MapLabel))
+      (beside s p MapLabel 16 16 refl
       (beside s p MapLength 4 12 (four-run s octets (p + MapLength) map_record_size size)
       (beside s p MapOffset 4 8 (four-run s octets (p + MapOffset) offset place)
       (beside s p Address 1 7 (one-run s p Address) (zeros-run s p 0x19 7 zero)))))
 
   -- the board
   pub board-run : Head s p brd_info 0x60 → Zero s p 0x4D 0x60 → board_of (brd_info_at s p) ≡ run s p 0x60
-  unfolding brd_info_at spelled
+  unfolding brd_info_at spelled tab
   board-run h zero =
       from-start 0x60
       (beside s p 0 16 80 (head-run brd_info 0x60 h)
-      (beside s p ManuName 16 64 (bytes-sixteen s (p + ManuName))
-      (beside s p BrdName 16 48 (bytes-sixteen s (p + BrdName))
-      (beside s p BrdSerial 16 32 (bytes-sixteen s (p + BrdSerial))
+      (beside s p ManuName 16 64 (label-run ManuName)
+      (beside s p BrdName 16 48 (label-run BrdName)
+      (beside s p BrdSerial 16 32 (label-run BrdSerial)
       (beside s p BoardId 4 28 (four-at BoardId)
       (beside s p FabId 4 24 (four-at FabId)
       (beside s p EcId 4 20 (four-at EcId)

@@ -1,7 +1,7 @@
 -- What is read of an accepted image, laid again with its check fields, is its first StructLen bytes: header, map, records, board and further bytes are the runs
 -- of their bytes, and these lie end to end. Assumes nothing.
 use Prim.Native.Nat.{ℕ, ◌+◌, ◌-◌, ◌*◌, ◌≤◌}
-use Rattle.std.specs.Prelude.{List, ◌≡◌, take}
+use Rattle.std.specs.Prelude.{List, ◌≡◌, take, Ok}
 use Rattle.std.proofs.Math.Path.{refl, sym, ap, ap₂}
 use Rattle.std.proofs.Common.{◌∙◌, arith}
 use Rattle.board.specs.Items.{eeprom_at, eepr_map_at}
@@ -21,9 +21,8 @@ use Rattle.board_writer.proofs.laws.Reserved.{header-zero, map-zero, board-zero}
 use Rattle.kinds.specs.Kinds.{full}
 use Rattle.octets.specs.Bytes.{Octets, run, le32}
 use Rattle.octets.proofs.laws.Bytes.{length-run, run-part}
-use Rattle.verdict.specs.declared.Judged.TheVariants.{Accepted}
 
-module _ (s : List ℕ) (n : ℕ) (e : judged full s ≡ Accepted n) where
+module _ (s : List ℕ) (n : ℕ) (e : judged full s ≡ Ok n) where
   -- ---- where the parts lie
   -- the map's Length, where map and board start, and where the board ends
   map-length : length_at s (map_at s) ≡ MapData + map_count s (map_at s) * map_record_size

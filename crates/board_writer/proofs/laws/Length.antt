@@ -10,6 +10,7 @@ use Rattle.board_layout.proofs.laws.Layout.{header-size}
 use Rattle.board_writer.specs.Image.{header_of, map_of, board_of, laid_record, laid_records, map_length, image_length, body, laid, crc_length, check, image, board_length}
 use Rattle.board_writer.specs.Parts.{Parts, record_count}
 use Rattle.board_writer.specs.declared.MapFields.{MapFields}
+use Rattle.chain.specs.Fill.{tab}
 use Rattle.octets.proofs.laws.Pieces.{flat-length}
 use Rattle.octets.specs.Bytes.{spelled}
 
@@ -42,15 +43,15 @@ header-long x check covers =
     omega (arith, header-length x.header (image_length x) check covers x.version, (header-size x.header).0)
 
 pub map-length : (n : ℕ) (m : MapFields) → length (map_of n m) ≡ MapData
-unfolding spelled
+unfolding spelled tab
 map-length n m = refl
 
 pub record-length : (records : List ℕ) (block k : ℕ) → length (laid_record records block k) ≡ map_record_size
-unfolding laid_record spelled
+unfolding laid_record spelled tab
 record-length records block k = refl
 
 pub board-length : (b : BrdInfoFields) → length (board_of b) ≡ board_length
-unfolding spelled
+unfolding spelled tab
 board-length b = refl
 
 -- n records

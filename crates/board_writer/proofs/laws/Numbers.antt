@@ -1,7 +1,7 @@
 -- What the writer can refuse with: of the reader's rules all but 20, 21, 22 and 27, since length, header, StructLen and check fields of the image are the
 -- writer's own work. Assumes nothing.
 use Prim.Native.Nat.{ℕ, ◌≤◌}
-use Rattle.std.specs.Prelude.{true, ◌≡◌, refl, length}
+use Rattle.std.specs.Prelude.{true, ◌≡◌, refl, length, Some, None, Ok}
 use mathlib.Core.List.{List, [], ◌∷◌, append-nil, Memᴰ}
 use Rattle.std.proofs.Common.{sym, ◌∙◌, arith, le-ltb, eq-eqb}
 use Rattle.std.proofs.Math.Path.{ap, subst}
@@ -19,40 +19,38 @@ use Rattle.board_writer.proofs.laws.CheckFields.{check-fields-hold}
 use Rattle.board_writer.proofs.laws.Length.{image-length}
 use Rattle.board_writer.proofs.laws.Octets.{body-octets}
 use Rattle.board_writer.proofs.laws.Places.{Head, header-head, struct-len-is}
-use Rattle.chain.specs.declared.Found.{Found}
-use Rattle.chain.specs.declared.Found.TheVariants.{At, Nothing}
+use Rattle.chain.specs.Found.{Found}
 use Rattle.chain.proofs.laws.Checks.{kept-under}
 use Rattle.kinds.specs.Kinds.{full}
 use Rattle.kinds.specs.Signatures.{eeprom}
 use Rattle.octets.specs.Bytes.{Octets}
 use Rattle.verdict.specs.Said.{refused, write_said}
 use Rattle.verdict.specs.Verdict.{refuse, answer}
-use Rattle.verdict.specs.declared.Judged.{Judged}
-use Rattle.verdict.specs.declared.Judged.TheVariants.{Accepted}
+use Rattle.verdict.specs.Answers.{Judged}
 use Rattle.verdict.proofs.laws.Numbers.{Refuses, table-number, rules-number}
 
 -- rules 20, 21, 22 and 27 are not broken
 pub record WellFormed (s : List ℕ) : Type 0 where
-  pub twenty : rule20 s ≡ Nothing
-  pub twenty_one : rule21 s ≡ Nothing
-  pub twenty_two : rule22 s ≡ Nothing
-  pub twenty_seven : rule27 s ≡ Nothing
+  pub twenty : rule20 s ≡ None
+  pub twenty_one : rule21 s ≡ None
+  pub twenty_two : rule22 s ≡ None
+  pub twenty_seven : rule27 s ≡ None
 
 -- ---- the image that is made breaks none of them
 -- what rule 20 asks of the length
-length-holds : (s : List ℕ) → header_length Short ≤ length s → length s ≤ 65536 → rule20 s ≡ Nothing
+length-holds : (s : List ℕ) → header_length Short ≤ length s → length s ≤ 65536 → rule20 s ≡ None
 unfolding rule20
 length-holds s least most = rw (le-ltb (length s) (header_length Short) least, le-ltb 65536 (length s) most)
 
 -- what rule 21 asks of the header
-header-holds : (s : List ℕ) (h : Header) → Head s 0 eeprom (header_length h) → rule21 s ≡ Nothing
+header-holds : (s : List ℕ) (h : Header) → Head s 0 eeprom (header_length h) → rule21 s ≡ None
 unfolding rule21
 header-holds s h head =
     let good : is_header_length (length_at s 0) ≡ true = ap is_header_length head.length ∙ header-good h in
     rw (eq-eqb (signature_at s 0) eeprom head.signature, eq-eqb (major_at s 0) 1 head.major, good)
 
 -- what rule 22 asks of StructLen
-struct-len-holds : (s : List ℕ) → length_at s 0 ≤ struct_len s → struct_len s ≤ length s → rule22 s ≡ Nothing
+struct-len-holds : (s : List ℕ) → length_at s 0 ≤ struct_len s → struct_len s ≤ length s → rule22 s ≡ None
 unfolding rule22
 struct-len-holds s least most = rw (le-ltb (struct_len s) (length_at s 0) least, le-ltb (length s) (struct_len s) most)
 
@@ -90,8 +88,8 @@ unsigned-last s (r ∷ rs) j = go r.1 (unsigned-last s rs j)
   where
     go : (f : Found) → unsigned s (answer rs j) ≡ answer rs (unsigned s j)
         → unsigned s (refuse r.0 f (answer rs j)) ≡ refuse r.0 f (answer rs (unsigned s j))
-    go (At p) e = refl
-    go Nothing e = e
+    go (Some p) e = refl
+    go None e = e
 
 -- the rules that are left, and 45
 abbrev left : List ℕ → List (ℕ × Found)
@@ -111,10 +109,10 @@ left s =
     ∷ []
 
 -- what is said of an image that is well-formed
-review-left : (s : List ℕ) → WellFormed s → reviewed s ≡ answer (left s) (Accepted (length (structures s)))
+review-left : (s : List ℕ) → WellFormed s → reviewed s ≡ answer (left s) (Ok (length (structures s)))
 unfolding reviewed judged
 review-left s w =
-    unsigned-last s (rules full s) (Accepted (length (structures s))) ∙ rw (w.twenty, w.twenty_one, w.twenty_two, w.twenty_seven)
+    unsigned-last s (rules full s) (Ok (length (structures s))) ∙ rw (w.twenty, w.twenty_one, w.twenty_two, w.twenty_seven)
 
 -- the number of a refusal of it
 review-number : (bytes buffer : List ℕ) (n p : ℕ) → WellFormed bytes → Refuses bytes buffer n p (reviewed bytes)

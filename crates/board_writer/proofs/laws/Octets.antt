@@ -16,7 +16,7 @@ use Rattle.chain.specs.Fill.{tab}
 use Rattle.chain.proofs.laws.Below.{below}
 use Rattle.kinds.specs.Signatures.{eeprom, eepr_map, brd_info}
 use Rattle.octets.specs.Bytes.{byte, Octets, run, spelled}
-use Rattle.octets.specs.Runs.{sixteen_at, sixteen_bytes}
+use Rattle.octets.specs.Runs.{sixteen}
 use Rattle.octets.proofs.laws.Bytes.{byte-past, run-octets}
 
 -- the fields of a head
@@ -48,12 +48,12 @@ laid-octets x check covers h =
 module _ (x : Parts) (given : OfBytes x) where
   -- the map, up to its records
   map-octets : Octets (map_block x)
-  unfolding spelled flatten
+  unfolding spelled flatten tab
   map-octets =
       let m : MapFields = x.map in
       octets-fields
       (head_fields eepr_map (map_length x)
-      ++ (some (sixteen_bytes m.partlabel) given.part_label
+      ++ (some (sixteen m.partlabel) (run-octets m.partlabel 0 16 given.part_label)
       ∷ number 4 m.blklength
       ∷ number 2 m.pagesize
       ∷ number 4 m.partsize
@@ -65,7 +65,7 @@ module _ (x : Parts) (given : OfBytes x) where
 
   -- a record's label and address are bytes of the run
   record-octets : (k : ℕ) → Octets (record_block x k)
-  unfolding laid_record sixteen_at spelled flatten tab
+  unfolding laid_record spelled flatten tab
   record-octets k =
       let r : List ℕ = x.records in
       let p : ℕ = given_size * k in
@@ -79,14 +79,14 @@ module _ (x : Parts) (given : OfBytes x) where
 
   -- the board
   board-octets : Octets (board_block x)
-  unfolding spelled flatten
+  unfolding spelled flatten tab
   board-octets =
       let b : BrdInfoFields = x.board in
       octets-fields
       (head_fields brd_info 0x60
-      ++ (some (sixteen_bytes b.manuname) given.manu_name
-      ∷ some (sixteen_bytes b.brdname) given.brd_name
-      ∷ some (sixteen_bytes b.brdserial) given.brd_serial
+      ++ (some (sixteen b.manuname) (run-octets b.manuname 0 16 given.manu_name)
+      ∷ some (sixteen b.brdname) (run-octets b.brdname 0 16 given.brd_name)
+      ∷ some (sixteen b.brdserial) (run-octets b.brdserial 0 16 given.brd_serial)
       ∷ number 4 b.boardid
       ∷ number 4 b.fabid
       ∷ number 4 b.ecid

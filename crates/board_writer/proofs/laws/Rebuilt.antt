@@ -1,6 +1,6 @@
 -- What is accepted is rebuilt to the last byte: what is read of a board image without `$PromSig` and with minor 0 in its first three structures, that a reader
 -- with the full list accepts, is written as its first StructLen bytes. Assumes nothing.
-use Rattle.std.specs.Prelude.{ℕ, ◌+◌, ◌≤◌, List, ◌++◌, ◌≡◌, length, take, drop}
+use Rattle.std.specs.Prelude.{ℕ, ◌+◌, ◌≤◌, List, ◌++◌, ◌≡◌, length, take, drop, None, Ok}
 use Rattle.std.proofs.Common.{sym, ap, ◌∙◌, arith, get_or-take, length-take-le}
 use Rattle.board_layout.specs.Layout.{struct_len}
 use Rattle.board_layout.specs.Places.{Crc32, CrcLength}
@@ -18,14 +18,12 @@ use Rattle.board_writer.proofs.laws.Laid.{length-parts, laid-parts}
 use Rattle.board_writer.proofs.laws.Order.{whole-records}
 use Rattle.board_writer.proofs.laws.Records.{records-length}
 use Rattle.board_writer.proofs.laws.Written.{Writable, written-exactly, written-holds}
-use Rattle.chain.specs.declared.Found.TheVariants.{Nothing}
 use Rattle.kinds.specs.Kinds.{full}
 use Rattle.octets.specs.Bytes.{Octets, le32}
 use Rattle.octets.proofs.laws.Same.{Same, le32-same}
 use Rattle.verdict.specs.Said.{says, write_said}
-use Rattle.verdict.specs.declared.Judged.TheVariants.{Accepted}
 
-module _ (s : List ℕ) (n : ℕ) (e : judged full s ≡ Accepted n) (r : Rebuildable s) where
+module _ (s : List ℕ) (n : ℕ) (e : judged full s ≡ Ok n) (r : Rebuildable s) where
   -- ---- the first StructLen bytes are read as the image is
   abbrev front : List ℕ
   front = take (struct_len s) s
@@ -44,10 +42,10 @@ module _ (s : List ℕ) (n : ℕ) (e : judged full s ≡ Accepted n) (r : Rebuil
   front-length : length front ≡ struct_len s
   front-length = length-take-le (struct_len s) s within.1
 
-  accepted : judged full front ≡ Accepted n
+  accepted : judged full front ≡ Ok n
   accepted = front-accepted full s n e
 
-  front-unsigned : prom_sig_at front ≡ Nothing
+  front-unsigned : prom_sig_at front ≡ None
   front-unsigned = same-signed full s front n e same ∙ r.unsigned
 
   module _ (octets : Octets s) where
@@ -63,7 +61,7 @@ module _ (s : List ℕ) (n : ℕ) (e : judged full s ≡ Accepted n) (r : Rebuil
 
     -- ---- the writer accepts it
     -- no rule of its own is broken
-    whole-seventeens : rule46 (parts_of s) ≡ Nothing
+    whole-seventeens : rule46 (parts_of s) ≡ None
     unfolding parts_of
     whole-seventeens = whole-records (parts_of s) (omega (arith, records-length s n e))
 

@@ -2,7 +2,7 @@
 -- image. Assumes nothing.
 use Prim.Native.Nat.{ℕ, ◌+◌, ◌*◌, ◌<◌}
 use mathlib.Core.List.{List, [], flatten, append-nil}
-use Rattle.std.specs.Prelude.{◌≡◌, refl, length}
+use Rattle.std.specs.Prelude.{◌≡◌, refl, length, take, Ok}
 use Rattle.std.proofs.Common.{sym, subst, ◌∙◌, arith}
 use Rattle.std.proofs.Math.Path.{ap, ap₂}
 use Rattle.board.specs.Records.{map_record_at}
@@ -25,11 +25,8 @@ use Rattle.chain.proofs.laws.Fill.{tab-agree}
 use Rattle.chain.proofs.laws.Nth.{nth-all}
 use Rattle.kinds.specs.Kinds.{full}
 use Rattle.octets.specs.Bytes.{byte, Octets, run, le32}
-use Rattle.octets.specs.Runs.{sixteen, sixteen_at}
-use Rattle.octets.specs.declared.Sixteen.{Sixteen}
-use Rattle.verdict.specs.declared.Judged.TheVariants.{Accepted}
 
-module _ (s : List ℕ) (n : ℕ) (e : judged full s ≡ Accepted n) where
+module _ (s : List ℕ) (n : ℕ) (e : judged full s ≡ Ok n) where
   -- how many there are, where record k starts, and its seventeen bytes
   abbrev count : ℕ
   count = map_count s (map_at s)
@@ -41,6 +38,7 @@ module _ (s : List ℕ) (n : ℕ) (e : judged full s ≡ Accepted n) where
   given k = record_given (map_record_at s (place k))
 
   given-size : (k : ℕ) → length (given k) ≡ given_size
+  unfolding tab map_record_at
   given-size k = refl
 
   -- the run that is read is their seventeens, end to end
@@ -59,12 +57,13 @@ module _ (s : List ℕ) (n : ℕ) (e : judged full s ≡ Accepted n) where
 
   -- as a run
   seventeen : (k : ℕ) → k < count → run (records_of s) (given_size * k) given_size ≡ given k
+  unfolding tab map_record_at
   seventeen k h = ap (λ (p : ℕ). run (records_of s) p given_size) (omega arith) ∙ lies-run (records_of s) (k * given_size) (given k) (lies k h)
 
   -- label and address of record k
-  label-read : (k : ℕ) → k < count → sixteen_at (records_of s) (given_size * k) ≡ sixteen_at s (place k + MapLabel)
-  unfolding sixteen_at tab map_record_at
-  label-read k h = ap sixteen (seventeen k h)
+  label-read : (k : ℕ) → k < count → run (records_of s) (given_size * k) 16 ≡ run s (place k + MapLabel) 16
+  unfolding tab map_record_at
+  label-read k h = ap (take 16) (seventeen k h)
 
   address-read : (k : ℕ) → k < count → byte (records_of s) (given_size * k + 16) ≡ byte s (place k + Address)
   unfolding tab map_record_at
@@ -78,7 +77,7 @@ module _ (s : List ℕ) (n : ℕ) (e : judged full s ≡ Accepted n) where
     laid-record k h =
         let offset : ℕ = k * le32 s (map_at s + BlkLength) in
         let good = nth-all (GoodMapRecord s (map_at s)) (records Map s (map_at s)) k (place k) (map-records full s n e) (record-place full s n e k h) in
-        ap₂ (λ (l : Sixteen) (a : ℕ). record_of l offset a) (label-read k h) (address-read k h)
+        ap₂ (λ (l : List ℕ) (a : ℕ). record_of l offset a) (label-read k h) (address-read k h)
         ∙ record-run s octets (place k) offset good.size (record-offset full s n e k h) (record-zero s n e r k h)
 
     pub laid-records : laid_records (records_of s) (le32 s (map_at s + BlkLength)) count ≡ run s (map_at s + MapData) (count * map_record_size)

@@ -1,6 +1,6 @@
 -- Rule 32 in an image that can be rebuilt: the reserved bytes of the header, the map, its records and the board are zero, because all three have minor 0 and
 -- the full list knows them. Assumes nothing.
-use Rattle.std.specs.Prelude.{ℕ, ◌+◌, ◌*◌, ◌≤◌, ◌<◌, List, ◌≡◌, eqb, leb}
+use Rattle.std.specs.Prelude.{ℕ, ◌+◌, ◌*◌, ◌≤◌, ◌<◌, List, ◌≡◌, eqb, leb, None, Ok}
 use Rattle.std.proofs.Math.Bool.{true}
 use Rattle.std.proofs.Math.Logic.{inl, inr}
 use Rattle.std.proofs.Math.Path.{refl}
@@ -20,25 +20,23 @@ use Rattle.board_rules.proofs.laws.Walk.{first-three}
 use Rattle.board_writer.specs.PartsOf.{Rebuildable}
 use Rattle.board_writer.proofs.laws.Fixed.{Zero}
 use Rattle.chain.specs.First.{or_else}
-use Rattle.chain.specs.declared.Found.{Found}
-use Rattle.chain.specs.declared.Found.TheVariants.{Nothing}
+use Rattle.chain.specs.Found.{Found}
 use Rattle.chain.proofs.laws.Checks.{under-mark}
 use Rattle.chain.proofs.laws.First.{first-all, or_else-left, or_else-right}
 use Rattle.chain.proofs.laws.Nth.{nth-all}
 use Rattle.kinds.specs.Kinds.{full}
 use Rattle.octets.specs.Runs.{nonzero}
 use Rattle.octets.proofs.laws.Runs.{nonzero-none}
-use Rattle.verdict.specs.declared.Judged.TheVariants.{Accepted}
 
 -- a field that lies within its structure and is not used is zero
-field-zero : (s : List ℕ) (from to end p : ℕ) → p + to ≤ end → field_used s from to end p ≡ Nothing → Zero s p from to
+field-zero : (s : List ℕ) (from to end p : ℕ) → p + to ≤ end → field_used s from to end p ≡ None → Zero s p from to
 field-zero s from to end p h e =
     nonzero-none s p from to (under-mark (leb (p + to) end) (nonzero s p from to) e (le-leb (p + to) end h))
 
-module _ (s : List ℕ) (n : ℕ) (e : judged full s ≡ Accepted n) (r : Rebuildable s) where
+module _ (s : List ℕ) (n : ℕ) (e : judged full s ≡ Ok n) (r : Rebuildable s) where
   -- what rule 32 says of a structure that the full list knows
   abbrev Kept : ℕ → Type 0
-  Kept p = knows full (shape_at s p) ≡ true → reserved_used s p (shape_at s p) ≡ Nothing
+  Kept p = knows full (shape_at s p) ≡ true → reserved_used s p (shape_at s p) ≡ None
 
   -- it holds of the first three
   kept : Kept 0 × Kept (map_at s) × Kept (board_at s)
@@ -46,12 +44,12 @@ module _ (s : List ℕ) (n : ℕ) (e : judged full s ≡ Accepted n) (r : Rebuil
 
   -- in one of them, by its table, with its field within its Length: the field is zero, and no record has a byte used
   clear-at : (p : ℕ) (shape : Shape) → shape_at s p ≡ shape → knows full shape ≡ true → minor_at s p ≡ 0 → reserved_to shape ≤ length_at s p → Kept p
-      → Zero s p (reserved_from shape) (reserved_to shape) × (records_used s p shape ≡ Nothing)
+      → Zero s p (reserved_from shape) (reserved_to shape) × (records_used s p shape ≡ None)
   unfolding reserved_used end_at
   clear-at p shape d known minor h k =
       let field : Found = field_used s (reserved_from shape) (reserved_to shape) (end_at s p) p in
-      let c : or_else field (records_used s p shape) ≡ Nothing =
-      under-mark (eqb (minor_at s p) 0) _ (subst (λ (a : Shape). knows full a ≡ true → reserved_used s p a ≡ Nothing) d k known)
+      let c : or_else field (records_used s p shape) ≡ None =
+      under-mark (eqb (minor_at s p) 0) _ (subst (λ (a : Shape). knows full a ≡ true → reserved_used s p a ≡ None) d k known)
       (eq-eqb (minor_at s p) 0 minor) in (
         field-zero s (reserved_from shape) (reserved_to shape) (end_at s p) p (omega arith) (or_else-left field (records_used s p shape) c),
         or_else-right field (records_used s p shape) c,
@@ -68,7 +66,7 @@ module _ (s : List ℕ) (n : ℕ) (e : judged full s ≡ Accepted n) (r : Rebuil
       ]
 
   -- the map: its field, and its records
-  map-clear : Zero s (map_at s) 0x2D 0x30 × (records_used s (map_at s) EeprMap ≡ Nothing)
+  map-clear : Zero s (map_at s) 0x2D 0x30 × (records_used s (map_at s) EeprMap ≡ None)
   unfolding shape_at shape_of
   map-clear =
       clear-at (map_at s) EeprMap (rw (map-second full s n e).1 refl) refl r.map (omega (arith, (map-head full s n e).1)) kept.1
@@ -84,7 +82,7 @@ module _ (s : List ℕ) (n : ℕ) (e : judged full s ≡ Accepted n) (r : Rebuil
       let place = record-place full s n e i h in
       field-zero s 0x19 0x20 end at
       (nth-all (λ q. (map_at s + MapData ≤ q) × (q + map_record_size ≤ end)) (records Map s (map_at s)) i at (records-fit full s n e) place).1
-      (nth-all (λ q. record_used Map s (map_at s) q ≡ Nothing) (records Map s (map_at s)) i at
+      (nth-all (λ q. record_used Map s (map_at s) q ≡ None) (records Map s (map_at s)) i at
       (first-all (record_used Map s (map_at s)) (records Map s (map_at s)) map-clear.1) place)
 
   -- the board

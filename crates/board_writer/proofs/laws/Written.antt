@@ -1,6 +1,6 @@
 -- What is written is accepted and reads back: exactly when a length n is answered; and after such a call the first m bytes of the buffer, for any m from n to
 -- 65,536, are accepted with the full list, have no `$PromSig`, and the parts read from them are those given. Assumes nothing.
-use Rattle.std.specs.Prelude.{ℕ, ◌+◌, ◌-◌, ◌≤◌, ◌≡◌, take, drop}
+use Rattle.std.specs.Prelude.{ℕ, ◌+◌, ◌-◌, ◌≤◌, ◌≡◌, take, drop, None, Ok, Err}
 use mathlib.Core.List.{List, ◌++◌}
 use Rattle.std.proofs.Math.Path.{refl, sym}
 use Rattle.std.proofs.Common.{ap, subst, ◌∙◌, arith, length-append, length-take, length-drop, take_all}
@@ -17,31 +17,28 @@ use Rattle.board_writer.proofs.laws.Back.{parts-image}
 use Rattle.board_writer.proofs.laws.Front.{front-accepted, front-signed}
 use Rattle.board_writer.proofs.laws.Length.{image-length}
 use Rattle.board_writer.proofs.laws.Order.{reviewed-well, written-image}
-use Rattle.chain.specs.declared.Found.{Found}
-use Rattle.chain.specs.declared.Found.TheVariants.{Nothing}
+use Rattle.chain.specs.Found.{Found}
 use Rattle.chain.proofs.laws.Checks.{kept-under}
 use Rattle.kinds.specs.Kinds.{full}
 use Rattle.verdict.specs.Said.{Said, says, refused, write_said}
 use Rattle.verdict.specs.Written.{written_if}
-use Rattle.verdict.specs.declared.Judged.{Judged}
-use Rattle.verdict.specs.declared.Judged.TheVariants.{Accepted, Refused}
-use Rattle.verdict.specs.declared.WriteAnswer.{WriteAnswer}
+use Rattle.verdict.specs.Answers.{Judged, WriteAnswer}
 use Rattle.verdict.proofs.laws.Accepted.{Clear, clear, after}
 
 -- ---- when a length is answered
 -- exactly when the answer is a length n: no rule of the writer is broken, and the reader accepts the image and finds no `$PromSig` in it
 pub record Writable (x : Parts) (buffer : List ℕ) (n : ℕ) : Type 0 where
-  pub whole : rule46 x ≡ Nothing
+  pub whole : rule46 x ≡ None
   pub size : n ≡ image_length x
   pub most : n ≤ 65536
   pub room : n ≤ length buffer
   pub count : ℕ
-  pub accepted : judged full (image x) ≡ Accepted count
-  pub unsigned : prom_sig_at (image x) ≡ Nothing
+  pub accepted : judged full (image x) ≡ Ok count
+  pub unsigned : prom_sig_at (image x) ≡ None
 
 module _ (x : Parts) (buffer : List ℕ) (n : ℕ) where
   -- then the image is written
-  writes : (w : Writable x buffer n) → written x buffer ≡ written_if (image x) buffer (Accepted w.count)
+  writes : (w : Writable x buffer n) → written x buffer ≡ written_if (image x) buffer (Ok w.count)
   writes w =
       written-image x buffer w.whole (omega (arith, w.size, w.most)) (omega (arith, w.size, w.room)) w.count w.accepted w.unsigned
 
@@ -55,7 +52,7 @@ module _ (x : Parts) (buffer : List ℕ) (n : ℕ) where
   writable e = go (checked x (length buffer)) refl e
     where
       go : (j : Judged) → checked x (length buffer) ≡ j → write_said (written_if (image x) buffer j).0 ≡ says n → Writable x buffer n
-      go (Accepted count) d c =
+      go (Ok count) d c =
           let rules : List (ℕ × Found) = writer_rules x (length buffer) in
           let kept : Clear rules = clear rules (reviewed (image x)) count d in
           let well = reviewed-well (image x) count (after rules (reviewed (image x)) count d) in
@@ -70,7 +67,7 @@ module _ (x : Parts) (buffer : List ℕ) (n : ℕ) where
             accepted = well.0;
             unsigned = well.1;
           }
-      go (Refused r) d c = let never : n ≡ n + 1 = cc in absurd (omega (arith, never))
+      go (Err r) d c = let never : n ≡ n + 1 = cc in absurd (omega (arith, never))
 
   -- both directions: a length where it must be, and nowhere else
   pub written-exactly : (write_said (written x buffer).0 ≡ says n → Writable x buffer n) × (Writable x buffer n → write_said (written x buffer).0 ≡ says n)
@@ -120,8 +117,8 @@ unfolding written
 refused-unchanged x buffer m p e = go (checked x (length buffer)) e
   where
     go : (j : Judged) → write_said (written_if (image x) buffer j).0 ≡ refused m p → (written_if (image x) buffer j).1 ≡ buffer
-    go (Accepted count) c = cc
-    go (Refused r) c = refl
+    go (Ok count) c = cc
+    go (Err r) c = refl
 
 -- a buffer stays as long as it is, whatever is answered
 pub written-length : (x : Parts) (buffer : List ℕ) → length (written x buffer).1 ≡ length buffer

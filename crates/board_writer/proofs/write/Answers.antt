@@ -1,31 +1,33 @@
 -- `write` meets its contract: the numbers and bytes that it is given have the bounds of their types. Assumes nothing.
-use Rattle.std.proofs.Common.{arith}
-use Rattle.octets.proofs.laws.Octets.{sixteen-octets}
+use Rattle.std.proofs.Common.{arith, rules}
 use Rattle.board_writer.proofs.write.Goals as goal
 
 pub returns : goal.returns
-returns c = let map = c.well_formed.1.1.0 in
-    let board = c.well_formed.1.1.1.1.0 in (
-      c.write_parts.ensures,
-      record {
-        version = omega (arith, c.ranges.version);
-        blk_length = omega (arith, map);
-        page_size = omega (arith, map);
-        part_size = omega (arith, map);
-        board_id = omega (arith, board);
-        fab_id = omega (arith, board);
-        ec_id = omega (arith, board);
-      },
-      record {
-        part_label = sixteen-octets _ (omega (arith, map));
-        bus_number = omega (arith, map);
-        master = omega (arith, map);
-        speed = omega (arith, map);
-        records = λ p. omega (arith, c.type_inv.records p);
-        manu_name = sixteen-octets _ (omega (arith, board.1.1.0));
-        brd_name = sixteen-octets _ (omega (arith, board.1.1.1.0));
-        brd_serial = sixteen-octets _ (omega (arith, board.1.1.1.1.0));
-        board_type = omega (arith, board);
-        further = λ p. omega (arith, c.type_inv.further p);
-      },
-    )
+returns c = let w = c.well_formed.0 in (
+  c.write.ensures,
+  record {
+    version = omega (arith, w);
+    blk_length = omega (arith, w);
+    page_size = omega (arith, w);
+    part_size = omega (arith, w);
+    board_id = omega (arith, w);
+    fab_id = omega (arith, w);
+    ec_id = omega (arith, w);
+    part_label = search rules;
+    manu_name = search rules;
+    brd_name = search rules;
+    brd_serial = search rules;
+  },
+  record {
+    part_label = c.are_bytes.ensures;
+    bus_number = omega (arith, w);
+    master = omega (arith, w);
+    speed = omega (arith, w);
+    records = c.are_bytes-2.ensures;
+    manu_name = c.are_bytes-3.ensures;
+    brd_name = c.are_bytes-4.ensures;
+    brd_serial = c.are_bytes-5.ensures;
+    board_type = omega (arith, w);
+    further = c.are_bytes-6.ensures;
+  },
+)

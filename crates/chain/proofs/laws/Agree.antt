@@ -4,7 +4,7 @@ use Rattle.std.proofs.Common.{inl, inr, sym, ap, ◌∙◌}
 use Rattle.chain.specs.All.{All}
 use Rattle.chain.specs.Chain.{chain}
 use Rattle.chain.specs.First.{search}
-use Rattle.chain.specs.declared.Found.{Found}
+use Rattle.chain.specs.Found.{Found}
 use Rattle.chain.proofs.laws.Chain.{chain-end, chain-more, chain-ind}
 use Rattle.chain.proofs.laws.First.{first-agree}
 use Rattle.chain.proofs.laws.Places.{chain-all}

@@ -1,7 +1,7 @@
 -- The items of a chain by their numbers: the first is at the start, the one after an item is the next, and those before an item are the chain that ends there.
 -- Assumes nothing.
 use Prim.Native.Nat.{ℕ, zero, suc, ◌≤◌, ◌<◌}
-use Rattle.std.specs.Prelude.{Bool, ◌↔◌, ◌≡◌, ltb}
+use Rattle.std.specs.Prelude.{Bool, ◌↔◌, ◌≡◌, ltb, Some}
 use Rattle.std.proofs.Math.Logic.{inl, inr}
 use Rattle.std.proofs.Math.Path.{sym, ap}
 use Rattle.std.proofs.Common.{◌∙◌}
@@ -11,7 +11,6 @@ use Rattle.chain.specs.Chain.{chain}
 use Rattle.chain.specs.Finds.{Among}
 use Rattle.chain.specs.First.{when}
 use Rattle.chain.specs.Nth.{nth}
-use Rattle.chain.specs.declared.Found.TheVariants.{At}
 use Rattle.chain.proofs.laws.Below.{below}
 use Rattle.chain.proofs.laws.Chain.{chain-end, chain-more}
 use Rattle.chain.proofs.laws.First.{at-nothing, when-place}
@@ -28,7 +27,7 @@ module _ (next : ℕ → ℕ) (end : ℕ) (grows : (p : ℕ) → p < next p) whe
         | inr h ↦ rw (chain-end next end grows p h, le-ltb p end h)
       ]
 
-  pub nth-starts : (p q : ℕ) → nth (chain next end p) 0 ≡ At q → p ≡ q
+  pub nth-starts : (p q : ℕ) → nth (chain next end p) 0 ≡ Some q → p ≡ q
   nth-starts p q e = when-place (ltb p end) p q (sym (nth-start p) ∙ e)
 
   -- number n + 1 is number n from the next item on
@@ -41,7 +40,7 @@ module _ (next : ℕ → ℕ) (end : ℕ) (grows : (p : ℕ) → p < next p) whe
       ]
 
   -- the next after item n is item n + 1, if it starts before the end
-  nth-goes : (n p q : ℕ) → nth (chain next end p) n ≡ At q → next q < end → nth (chain next end p) (suc n) ≡ At (next q)
+  nth-goes : (n p q : ℕ) → nth (chain next end p) n ≡ Some q → next q < end → nth (chain next end p) (suc n) ≡ Some (next q)
   nth-goes zero p q e h =
       nth-next p 0 ∙ ap (λ (x : ℕ). nth (chain next end (next x)) 0) (nth-starts p q e) ∙ nth-start (next q)
       ∙ ap (λ (b : Bool). when b (next q)) (lt-ltb (next q) end h)
@@ -54,12 +53,12 @@ module _ (next : ℕ → ℕ) (end : ℕ) (grows : (p : ℕ) → p < next p) whe
 -- the items before item j, which is at r, are those of the chain that ends at r
 module _ (next : ℕ → ℕ) (grows : (p : ℕ) → p < next p) (end : ℕ) where
   -- an item after the first is at the next place or past it, and before the end
-  item-past : (p j r : ℕ) → nth (chain next end p) (suc j) ≡ At r → (p < r) × (r < end)
+  item-past : (p j r : ℕ) → nth (chain next end p) (suc j) ≡ Some r → (p < r) × (r < end)
   item-past p j r d =
       let w = nth-all (λ q. (next p ≤ q) × (q < end)) (chain next end (next p)) j r (chain-within next end grows (next p)) (sym (nth-next next end grows p j) ∙ d) in
       (omega (arith, w.0, grows p), w.1)
 
-  pub nth-before : (j p r i e : ℕ) → nth (chain next end p) j ≡ At r → (nth (chain next r p) i ≡ At e) ↔ ((i < j) × (nth (chain next end p) i ≡ At e))
+  pub nth-before : (j p r i e : ℕ) → nth (chain next end p) j ≡ Some r → (nth (chain next r p) i ≡ Some e) ↔ ((i < j) × (nth (chain next end p) i ≡ Some e))
   unfolding nth
   nth-before zero p r i e d =
       let start : p ≡ r = nth-starts next end grows p r d in

@@ -1,11 +1,10 @@
 -- A clause of a rule: what is looked for, where the clause is broken, and between which places that is. Clauses in ascending order of place that are looked for
 -- one after the other find the smallest place where any of them is broken. Assumes nothing.
-use Rattle.std.specs.Prelude.{ℕ, ◌≤◌, ◌<◌, Bool, List, [], ◌∷◌, ◌⊎◌, ◌≡◌, refl}
+use Rattle.std.specs.Prelude.{ℕ, ◌≤◌, ◌<◌, Bool, List, [], ◌∷◌, ◌⊎◌, ◌≡◌, refl, None}
 use Rattle.std.proofs.Common.{inl, inr, subst, arith}
 use Rattle.chain.specs.Finds.{Finds}
 use Rattle.chain.specs.First.{or_else, when}
-use Rattle.chain.specs.declared.Found.{Found}
-use Rattle.chain.specs.declared.Found.TheVariants.{Nothing}
+use Rattle.chain.specs.Found.{Found}
 use Rattle.chain.proofs.laws.Finds.{finds-both, finds-when}
 use Rattle.chain.proofs.laws.Means.{Means, means-under, means-other}
 
@@ -46,7 +45,7 @@ other f n q = test (λ z. f z ≡ n → ⊥) q (means-other (f q) n)
 
 -- ---- several clauses
 abbrev pub found_in : List Clause → Found
-found_in [] = Nothing
+found_in [] = None
 found_in (c ∷ cs) = or_else c.found (found_in cs)
 
 abbrev pub AnyOf : List Clause → ℕ → Type 0

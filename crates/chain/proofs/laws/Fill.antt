@@ -8,6 +8,7 @@ use Rattle.std.proofs.Common.{◌∙◌, add-one, length-drop}
 use Rattle.std.proofs.Math.Nat.{add-zero, add-suc}
 use native.Mathlib.Omega.{arith}
 use Rattle.std.proofs.Math.ListN.{length, get_or, drop, length-append, get_or-append}
+use Rattle.std.proofs.Math.ListN.{drop_of_length-le}
 use Rattle.std.proofs.Math.Seq.{drop-cons, get_or-append-add, get_or-drop}
 use Rattle.std.proofs.lemmas.List.{set_at, get_or_at}
 use Rattle.chain.specs.Fill.{tab, filled}
@@ -57,6 +58,11 @@ module _ {A : Type 0} where
   pub length-filled : (f : ℕ → A) (n : ℕ) (b : List A) → n ≤ length b → length (filled f n b) ≡ length b
   unfolding filled
   length-filled f n b h = simp (length-append, length-tab, length-drop) (omega arith)
+
+  -- all of the buffer
+  pub filled-all : (f : ℕ → A) (n : ℕ) (b : List A) → length b ≡ n → filled f n b ≡ tab f n
+  unfolding filled
+  filled-all f n b h = ap (λ (l : List A). tab f n ++ l) (drop_of_length-le b (omega arith)) ∙ append-nil (tab f n)
 
   -- the first n elements are f 0 to f (n - 1), and the rest is as it was
   pub filled-front : (f : ℕ → A) (n : ℕ) (b : List A) (i : ℕ) (d : A) → i < n → get_or (filled f n b) i d ≡ f i

@@ -1,14 +1,13 @@
 -- How searches are put together: one test, a test of some item of a list, two searches one after the other, a search under a mark, over a range and along a
 -- chain. Each finds the smallest place of what its parts find the smallest places of. Assumes nothing.
-use Rattle.std.specs.Prelude.{ℕ, zero, suc, ◌≤◌, ◌<◌, Bool, true, false, cond, ◌⊎◌, ◌↔◌, ◌≡◌, refl}
+use Rattle.std.specs.Prelude.{ℕ, zero, suc, ◌≤◌, ◌<◌, Bool, true, false, cond, ◌⊎◌, ◌↔◌, ◌≡◌, refl, Some, None}
 use Rattle.std.proofs.Common.{true≢false, inl, inr, sym, subst, ◌∙◌, arith}
 use mathlib.Core.List.{List, [], ◌∷◌}
 use Rattle.chain.specs.Chain.{chain, range}
 use Rattle.chain.specs.Finds.{Among, Smallest, Nowhere, Finds}
 use Rattle.chain.specs.First.{or_else, when, first, search}
 use Rattle.chain.specs.Nth.{nth}
-use Rattle.chain.specs.declared.Found.{Found}
-use Rattle.chain.specs.declared.Found.TheVariants.{At, Nothing}
+use Rattle.chain.specs.Found.{Found}
 use Rattle.chain.proofs.laws.Below.{below}
 use Rattle.chain.proofs.laws.Chain.{chain-more, chain-end, chain-ind}
 use Rattle.chain.proofs.laws.First.{at-nothing}
@@ -19,14 +18,14 @@ use Rattle.chain.proofs.laws.Ranges.{Least, range-least, range-none}
 
 -- ---- the same places, said in two ways
 pub finds-as : (B C : ℕ → Type 0) → ((z : ℕ) → B z → C z) → ((z : ℕ) → C z → B z) → (f : Found) → Finds B f → Finds C f
-finds-as B C to back (At p) h = (to p h.0, λ q c. h.1 q (back q c))
-finds-as B C to back Nothing h = λ q c. h q (back q c)
+finds-as B C to back (Some p) h = (to p h.0, λ q c. h.1 q (back q c))
+finds-as B C to back None h = λ q c. h q (back q c)
 
 -- what is found is the smallest place with the property, and where nothing is, no place has it
-pub found-is : (B : ℕ → Type 0) (f : Found) (p : ℕ) → Finds B f → f ≡ At p → Smallest B p
+pub found-is : (B : ℕ → Type 0) (f : Found) (p : ℕ) → Finds B f → f ≡ Some p → Smallest B p
 found-is B f p h e = subst (Finds B) e h
 
-pub found-none : (B : ℕ → Type 0) (f : Found) → Finds B f → f ≡ Nothing → Nowhere B
+pub found-none : (B : ℕ → Type 0) (f : Found) → Finds B f → f ≡ None → Nowhere B
 found-none B f h e = subst (Finds B) e h
 
 -- ---- a rule on the one number with a property
@@ -41,17 +40,17 @@ finds-when B true q to back = (to refl, λ z h. omega (arith, (back z h).0))
 finds-when B false q to back = λ z h. true≢false (sym (back z h).1)
 
 -- ---- a search under a mark
-pub finds-under : (B : ℕ → Type 0) (b : Bool) (f : Found) → (b ≡ true → Finds B f) → ((z : ℕ) → B z → b ≡ true) → Finds B (cond b f Nothing)
+pub finds-under : (B : ℕ → Type 0) (b : Bool) (f : Found) → (b ≡ true → Finds B f) → ((z : ℕ) → B z → b ≡ true) → Finds B (cond b f None)
 finds-under B true f h marked = h refl
 finds-under B false f h marked = λ z c. true≢false (sym (marked z c))
 
 -- ---- two searches, the first for places that are not after those of the second
 pub finds-both : (B C : ℕ → Type 0) (f g : Found) → Finds B f → Finds C g → ((y z : ℕ) → B y → C z → y ≤ z) → Finds (λ z. B z ⊎ C z) (or_else f g)
-finds-both B C (At p) g h k order =
+finds-both B C (Some p) g h k order =
     (inl h.0, λ q c. elim c [ inl b ↦ h.1 q b | inr d ↦ order p q h.0 d ])
-finds-both B C Nothing (At p) h k order =
+finds-both B C None (Some p) h k order =
     (inr k.0, λ q c. elim c [ inl b ↦ absurd (h q b) | inr d ↦ k.1 q d ])
-finds-both B C Nothing Nothing h k order = λ q c. elim c [ inl b ↦ h q b | inr d ↦ k q d ]
+finds-both B C None None h k order = λ q c. elim c [ inl b ↦ h q b | inr d ↦ k q d ]
 
 -- ---- a test of each item of a list, with one place for all of them: some item passes
 pub finds-some : (test : ℕ → Bool) (q : ℕ) (l : List ℕ) → Finds (λ z. (z ≡ q) × ((x : ℕ) × (Among l x × (test x ≡ true)))) (first (λ x. when (test x) q) l)
@@ -72,7 +71,7 @@ finds-some test q (x ∷ xs) =
     to z (inl h) = (h.0, (x, ((0, refl), h.1)))
     to z (inr h) = (h.0, (h.1.0, ((suc h.1.1.0.0, h.1.1.0.1), h.1.1.1)))
 
-    which : (i y z : ℕ) → nth (x ∷ xs) i ≡ At y → z ≡ q → test y ≡ true → Here z ⊎ Later z
+    which : (i y z : ℕ) → nth (x ∷ xs) i ≡ Some y → z ≡ q → test y ≡ true → Here z ⊎ Later z
     which zero y z e d h = inl (d, let same : x ≡ y = cc in subst (λ (n : ℕ). test n ≡ true) (sym same) h)
     which (suc i) y z e d h = inr (d, (y, ((i, e), h)))
 
@@ -88,7 +87,7 @@ finds-range test place rises a b = go (first (λ i. when (test i) (place i)) (ra
     Has z = (i : ℕ) × ((a ≤ i) × (i < b) × (z ≡ place i) × (test i ≡ true))
 
     go : (f : Found) → first (λ i. when (test i) (place i)) (range a b) ≡ f → Finds Has f
-    go (At z) e =
+    go (Some z) e =
         let l : Least test place a b z = range-least test place b a z e in (
           (l.number, (l.from, l.to, sym l.stands, l.passes)),
           λ q h.
@@ -97,7 +96,7 @@ finds-range test place rises a b = go (first (λ i. when (test i) (place i)) (ra
                 | inr k ↦ omega (arith, rises l.number h.0 k, l.stands, h.1.2)
               ],
         )
-    go Nothing e = λ q h. true≢false (sym h.1.3 ∙ range-none test place b a e h.0 h.1.0 h.1.1)
+    go None e = λ q h. true≢false (sym h.1.3 ∙ range-none test place b a e h.0 h.1.0 h.1.1)
 
 -- ---- along a chain, where each item has its places from its start up to the next one's
 module _ (rule : ℕ → Found) (next : ℕ → ℕ) (end : ℕ) (grows : (p : ℕ) → p < next p) (B : ℕ → ℕ → Type 0)
@@ -115,7 +114,7 @@ module _ (rule : ℕ → Found) (next : ℕ → ℕ) (end : ℕ) (grows : (p : �
       stop : (from : ℕ) → end ≤ from → ((p : ℕ) → Among (chain next end from) p → Finds (B p) (rule p)) → Finds (Along from) (search rule next end from)
       stop from h each =
           rw (search-end rule next end grows from h)
-          (λ z x. at-nothing (sym (subst (λ (l : List ℕ). nth l x.1.0.0 ≡ At x.0) (chain-end next end grows from h) x.1.0.1)))
+          (λ z x. at-nothing (sym (subst (λ (l : List ℕ). nth l x.1.0.0 ≡ Some x.0) (chain-end next end grows from h) x.1.0.1)))
 
       step : (from : ℕ) → from < end
           → (((p : ℕ) → Among (chain next end (next from)) p → Finds (B p) (rule p)) → Finds (Along (next from)) (search rule next end (next from)))
@@ -135,13 +134,13 @@ module _ (rule : ℕ → Found) (next : ℕ → ℕ) (end : ℕ) (grows : (p : �
           to z (inl b) = (from, (here, b))
           to z (inr x) = (x.0, (further x.0 x.1.0, x.1.1))
 
-          which : (i p z : ℕ) → nth (from ∷ chain next end (next from)) i ≡ At p → B p z → B from z ⊎ Along (next from) z
+          which : (i p z : ℕ) → nth (from ∷ chain next end (next from)) i ≡ Some p → B p z → B from z ⊎ Along (next from) z
           which zero p z e b = inl (let d : from ≡ p = cc in subst (λ (x : ℕ). B x z) (sym d) b)
           which (suc i) p z e b = inr (p, ((i, e), b))
 
           back : (z : ℕ) → Along from z → B from z ⊎ Along (next from) z
           back z x =
-              which x.1.0.0 x.0 z (subst (λ (l : List ℕ). nth l x.1.0.0 ≡ At x.0) (chain-more next end grows from h) x.1.0.1) x.1.1
+              which x.1.0.0 x.0 z (subst (λ (l : List ℕ). nth l x.1.0.0 ≡ Some x.0) (chain-more next end grows from h) x.1.0.1) x.1.1
 
           order : (y z : ℕ) → B from y → Along (next from) z → y ≤ z
           order y z b x =

@@ -1,64 +1,63 @@
 -- The laws of the first place at which a rule is broken, over any list of places: when nothing is found, where what is found comes from,
 -- and two rules beside each other. Assumes nothing.
-use Rattle.std.specs.Prelude.{ℕ, Bool, true, false, List, [], ◌∷◌, ◌++◌, ◌≡◌, refl}
+use Rattle.std.specs.Prelude.{ℕ, Bool, true, false, List, [], ◌∷◌, ◌++◌, ◌≡◌, refl, Some, None}
 use Rattle.std.proofs.Common.{sym, ap, subst, ◌∙◌, arith}
 use Rattle.chain.specs.All.{All}
 use Rattle.chain.specs.First.{or_else, when, first}
-use Rattle.chain.specs.declared.Found.{Found}
-use Rattle.chain.specs.declared.Found.TheVariants.{At, Nothing}
+use Rattle.chain.specs.Found.{Found}
 use Rattle.chain.proofs.laws.All.{all-split}
 
 -- a place is not nothing
-pub at-nothing : {p : ℕ} → At p ≡ Nothing → ⊥
+pub at-nothing : {p : ℕ} → Some p ≡ None → ⊥
 at-nothing e = let z : ◌≡◌ {A = ℕ} 0 1 = cc in omega arith
 
 -- ---- what one answer tells
-pub when-test : (b : Bool) (q p : ℕ) → when b q ≡ At p → b ≡ true
+pub when-test : (b : Bool) (q p : ℕ) → when b q ≡ Some p → b ≡ true
 when-test true q p e = refl
 when-test false q p e = cc
 
-pub when-place : (b : Bool) (q p : ℕ) → when b q ≡ At p → q ≡ p
+pub when-place : (b : Bool) (q p : ℕ) → when b q ≡ Some p → q ≡ p
 when-place true q p e = cc
 when-place false q p e = cc
 
-pub when-nothing : (b : Bool) (q : ℕ) → when b q ≡ Nothing → b ≡ false
+pub when-nothing : (b : Bool) (q : ℕ) → when b q ≡ None → b ≡ false
 when-nothing true q e = cc
 when-nothing false q e = refl
 
-pub or_else-left : (f g : Found) → or_else f g ≡ Nothing → f ≡ Nothing
-or_else-left (At p) g e = e
-or_else-left Nothing g e = refl
+pub or_else-left : (f g : Found) → or_else f g ≡ None → f ≡ None
+or_else-left (Some p) g e = e
+or_else-left None g e = refl
 
-pub or_else-right : (f g : Found) → or_else f g ≡ Nothing → g ≡ Nothing
-or_else-right (At p) g e = cc
-or_else-right Nothing g e = e
+pub or_else-right : (f g : Found) → or_else f g ≡ None → g ≡ None
+or_else-right (Some p) g e = cc
+or_else-right None g e = e
 
 -- the first of three answers, however they are grouped
 pub or_else-assoc : (f g h : Found) → or_else (or_else f g) h ≡ or_else f (or_else g h)
-or_else-assoc (At p) g h = refl
-or_else-assoc Nothing g h = refl
+or_else-assoc (Some p) g h = refl
+or_else-assoc None g h = refl
 
 -- nothing as the second answer adds nothing
-pub or_else-nothing : (f : Found) → or_else f Nothing ≡ f
-or_else-nothing (At p) = refl
-or_else-nothing Nothing = refl
+pub or_else-nothing : (f : Found) → or_else f None ≡ f
+or_else-nothing (Some p) = refl
+or_else-nothing None = refl
 
 -- two answers that agree; the second ones need agree only where the first find nothing
-pub or_else-agree : {f g h i : Found} → f ≡ g → (f ≡ Nothing → h ≡ i) → or_else f h ≡ or_else g i
+pub or_else-agree : {f g h i : Found} → f ≡ g → (f ≡ None → h ≡ i) → or_else f h ≡ or_else g i
 or_else-agree {f} {g} {h} {i} e more = go f refl ∙ ap (λ (x : Found). or_else x i) e
   where
     go : (x : Found) → f ≡ x → or_else x h ≡ or_else x i
-    go (At p) d = refl
-    go Nothing d = more d
+    go (Some p) d = refl
+    go None d = more d
 
 -- ---- nothing is found exactly where no item breaks the rule
-pub first-all : (rule : ℕ → Found) (l : List ℕ) → first rule l ≡ Nothing → All (λ x. rule x ≡ Nothing) l
+pub first-all : (rule : ℕ → Found) (l : List ℕ) → first rule l ≡ None → All (λ x. rule x ≡ None) l
 unfolding first
 first-all rule [] e = tt
 first-all rule (x ∷ xs) e =
     (or_else-left (rule x) (first rule xs) e, first-all rule xs (or_else-right (rule x) (first rule xs) e))
 
-pub first-none : (rule : ℕ → Found) (l : List ℕ) → All (λ x. rule x ≡ Nothing) l → first rule l ≡ Nothing
+pub first-none : (rule : ℕ → Found) (l : List ℕ) → All (λ x. rule x ≡ None) l → first rule l ≡ None
 unfolding first
 first-none rule [] a = refl
 first-none rule (x ∷ xs) a = rw (a.0, first-none rule xs a.1)
@@ -69,15 +68,15 @@ pub record Hit (rule : ℕ → Found) (l : List ℕ) (p : ℕ) : Type 0 where
   pub item : ℕ
   pub later : List ℕ
   pub split : l ≡ earlier ++ (item ∷ later)
-  pub kept : All (λ x. rule x ≡ Nothing) earlier
-  pub breaks : rule item ≡ At p
+  pub kept : All (λ x. rule x ≡ None) earlier
+  pub breaks : rule item ≡ Some p
 
-pub first-hit : (rule : ℕ → Found) (l : List ℕ) (p : ℕ) → first rule l ≡ At p → Hit rule l p
+pub first-hit : (rule : ℕ → Found) (l : List ℕ) (p : ℕ) → first rule l ≡ Some p → Hit rule l p
 unfolding first
 first-hit rule [] p e = absurd (at-nothing (sym e))
 first-hit rule (x ∷ xs) p e = go (rule x) refl e (λ k. first-hit rule xs p k)
   where
-    after : rule x ≡ Nothing → Hit rule xs p → Hit rule (x ∷ xs) p
+    after : rule x ≡ None → Hit rule xs p → Hit rule (x ∷ xs) p
     after d h =
         record {
           earlier = x ∷ h.earlier;
@@ -88,9 +87,9 @@ first-hit rule (x ∷ xs) p e = go (rule x) refl e (λ k. first-hit rule xs p k)
           breaks = h.breaks;
         }
 
-    go : (f : Found) → rule x ≡ f → or_else f (first rule xs) ≡ At p → (first rule xs ≡ At p → Hit rule xs p) → Hit rule (x ∷ xs) p
-    go (At q) d c more = record { earlier = []; item = x; later = xs; split = refl; kept = tt; breaks = d ∙ c }
-    go Nothing d c more = after d (more c)
+    go : (f : Found) → rule x ≡ f → or_else f (first rule xs) ≡ Some p → (first rule xs ≡ Some p → Hit rule xs p) → Hit rule (x ∷ xs) p
+    go (Some q) d c more = record { earlier = []; item = x; later = xs; split = refl; kept = tt; breaks = d ∙ c }
+    go None d c more = after d (more c)
 
 -- what holds of all items holds of the one found
 pub hit-holds : (rule : ℕ → Found) (P : ℕ → Type 0) (l : List ℕ) (p : ℕ) → All P l → (h : Hit rule l p) → P h.item
@@ -104,7 +103,7 @@ first-agree f g [] a = refl
 first-agree f g (x ∷ xs) a = rw (a.0, first-agree f g xs a.1)
 
 -- a rule that is broken along the list only where another is finds nothing where that one finds nothing
-pub first-weaker : (f g : ℕ → Found) (l : List ℕ) → All (λ x. f x ≡ Nothing → g x ≡ Nothing) l → first f l ≡ Nothing → first g l ≡ Nothing
+pub first-weaker : (f g : ℕ → Found) (l : List ℕ) → All (λ x. f x ≡ None → g x ≡ None) l → first f l ≡ None → first g l ≡ None
 unfolding first
 first-weaker f g [] w e = refl
 first-weaker f g (x ∷ xs) w e =

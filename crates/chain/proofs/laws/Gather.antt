@@ -1,10 +1,9 @@
 -- A walk that carries what a rule found first: at place p, what was found so far, or else what the rest of the chain finds, is what the whole chain finds.
 -- Assumes nothing.
-use Rattle.std.specs.Prelude.{ℕ, ◌≤◌, ◌<◌, ◌≡◌}
+use Rattle.std.specs.Prelude.{ℕ, ◌≤◌, ◌<◌, ◌≡◌, None}
 use Rattle.std.proofs.Common.{inl, inr, sym, ap, ◌∙◌, arith}
 use Rattle.chain.specs.First.{or_else, search}
-use Rattle.chain.specs.declared.Found.{Found}
-use Rattle.chain.specs.declared.Found.TheVariants.{Nothing}
+use Rattle.chain.specs.Found.{Found}
 use Rattle.chain.proofs.laws.Below.{below}
 use Rattle.chain.proofs.laws.Chain.{chain-ind}
 use Rattle.chain.proofs.laws.First.{or_else-assoc, or_else-nothing}
@@ -23,7 +22,7 @@ module _ (rule : ℕ → Found) (next : ℕ → ℕ) (end : ℕ) (grows : (p : �
   gathered f p h inv = sym (or_else-nothing f) ∙ ap (or_else f) (sym (search-end rule next end grows p h)) ∙ inv
 
   -- where the rule is not broken at p, the search may begin at the next place
-  pub skip : (p : ℕ) → rule p ≡ Nothing → search rule next end p ≡ search rule next end (next p)
+  pub skip : (p : ℕ) → rule p ≡ None → search rule next end p ≡ search rule next end (next p)
   skip p e =
       elim (below p end) [
         | inl k ↦ search-more rule next end grows p k ∙ ap (λ (g : Found). or_else g (search rule next end (next p))) e

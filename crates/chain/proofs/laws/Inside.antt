@@ -3,20 +3,19 @@
 use Prim.Native.Nat.{ℕ, suc, ◌≤◌, ◌<◌}
 use mathlib.Core.List.{List}
 use Rattle.std.proofs.Math.Logic.{inl, inr}
-use Rattle.std.specs.Prelude.{◌≡◌}
+use Rattle.std.specs.Prelude.{◌≡◌, Some}
 use Rattle.std.proofs.Common.{sym, ◌∙◌, arith}
 use Rattle.std.proofs.Math.Path.{ap}
 use Rattle.chain.specs.Chain.{chain}
 use Rattle.chain.specs.Inside.{Inside}
 use Rattle.chain.specs.Nth.{nth}
-use Rattle.chain.specs.declared.Found.TheVariants.{At}
 use Rattle.chain.proofs.laws.Apart.{Apart, chain-apart}
 use Rattle.chain.proofs.laws.Below.{below}
 use Rattle.chain.proofs.laws.Chain.{chain-more, chain-ind}
 
 module _ (next : ℕ → ℕ) (end : ℕ) (grows : (p : ℕ) → p < next p) (start : ℕ) (has : ℕ → Type 0) (from to : ℕ → ℕ) (after : (p : ℕ) → p ≤ from p) (within : (p : ℕ) → to p ≤ next p) where
   pub inside-own :
-      (i p q : ℕ) → nth (chain next end start) i ≡ At p → p ≤ q → q < next p → (u : Inside (chain next end start) has from to q) → u.place ≡ p
+      (i p q : ℕ) → nth (chain next end start) i ≡ Some p → p ≤ q → q < next p → (u : Inside (chain next end start) has from to q) → u.place ≡ p
   inside-own i p q at a b u = go (chain-apart next end grows start i u.number p u.place at u.stands)
     where
       go : Apart next end grows p u.place → u.place ≡ p

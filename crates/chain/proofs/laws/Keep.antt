@@ -1,6 +1,6 @@
 -- The laws of the elements that pass a test and of the only place among them. Along a chain two searches tell the only one: the first place that
 -- passes, and the first after that one. Assumes nothing.
-use Rattle.std.specs.Prelude.{ℕ, zero, suc, ◌<◌, Bool, ◌≡◌}
+use Rattle.std.specs.Prelude.{ℕ, zero, suc, ◌<◌, Bool, ◌≡◌, Some, None}
 use Rattle.std.proofs.Math.Bool.{true, false, cond}
 use mathlib.Core.List.{List, [], ◌∷◌, ◌++◌, append-nil}
 use Rattle.std.proofs.Math.Path.{refl, ap}
@@ -10,8 +10,7 @@ use Rattle.chain.specs.Chain.{chain}
 use Rattle.chain.specs.First.{or_else, when, first, search}
 use Rattle.chain.specs.Keep.{keep, only}
 use Rattle.chain.specs.Nth.{nth}
-use Rattle.chain.specs.declared.Found.{Found}
-use Rattle.chain.specs.declared.Found.TheVariants.{At, Nothing}
+use Rattle.chain.specs.Found.{Found}
 use Rattle.chain.proofs.laws.All.{all-map}
 use Rattle.chain.proofs.laws.Chain.{chain-more, chain-ind}
 use Rattle.chain.proofs.laws.First.{at-nothing, when-nothing, first-all}
@@ -65,15 +64,15 @@ module _ {A : Type 0} where
       go false e more = more
 
 -- what holds of all places holds of the only one
-pub only-all : (P : ℕ → Type 0) (l : List ℕ) (p : ℕ) → All P l → only l ≡ At p → P p
+pub only-all : (P : ℕ → Type 0) (l : List ℕ) (p : ℕ) → All P l → only l ≡ Some p → P p
 unfolding only
 only-all P [] p a e = absurd (at-nothing (sym e))
 only-all P (x ∷ []) p a e = let d : x ≡ p = cc in rw d at a.0
 only-all P (x ∷ (y ∷ ys)) p a e = absurd (at-nothing (sym e))
 
 -- ---- the only place that passes, by its number: no other number has a place that passes
-keep-number : (test : ℕ → Bool) (l : List ℕ) (i p : ℕ) → nth l i ≡ At p → test p ≡ true
-    → ((j q : ℕ) → nth l j ≡ At q → test q ≡ true → j ≡ i) → keep test l ≡ p ∷ []
+keep-number : (test : ℕ → Bool) (l : List ℕ) (i p : ℕ) → nth l i ≡ Some p → test p ≡ true
+    → ((j q : ℕ) → nth l j ≡ Some q → test q ≡ true → j ≡ i) → keep test l ≡ p ∷ []
 unfolding keep nth
 keep-number test [] i p at on alone = absurd (at-nothing (sym at))
 keep-number test (x ∷ xs) zero p at on alone =
@@ -81,7 +80,7 @@ keep-number test (x ∷ xs) zero p at on alone =
     ap (λ (b : Bool). cond b (x ∷ keep test xs) (keep test xs)) (ap test d ∙ on)
     ∙ ap₂ (λ (y : ℕ) (ys : List ℕ). y ∷ ys) d (keep-none test xs (all-of-nth (λ q. test q ≡ false) xs (λ j q e. other j q e (test q) refl)))
   where
-    other : (j q : ℕ) → nth xs j ≡ At q → (b : Bool) → test q ≡ b → b ≡ false
+    other : (j q : ℕ) → nth xs j ≡ Some q → (b : Bool) → test q ≡ b → b ≡ false
     other j q e true t = absurd (omega (arith, alone (suc j) q e t))
     other j q e false t = refl
 keep-number test (x ∷ xs) (suc i) p at on alone =
@@ -91,8 +90,8 @@ keep-number test (x ∷ xs) (suc i) p at on alone =
     go true t more = absurd (omega (arith, alone zero x refl t))
     go false t more = more
 
-pub only-number : (test : ℕ → Bool) (l : List ℕ) (i p : ℕ) → nth l i ≡ At p → test p ≡ true
-    → ((j q : ℕ) → nth l j ≡ At q → test q ≡ true → j ≡ i) → only (keep test l) ≡ At p
+pub only-number : (test : ℕ → Bool) (l : List ℕ) (i p : ℕ) → nth l i ≡ Some p → test p ≡ true
+    → ((j q : ℕ) → nth l j ≡ Some q → test q ≡ true → j ≡ i) → only (keep test l) ≡ Some p
 unfolding only
 only-number test l i p at on alone = ap only (keep-number test l i p at on alone)
 
@@ -101,37 +100,37 @@ module _ (test : ℕ → Bool) where
   abbrev rule : ℕ → Found
   rule p = when (test p) p
 
-  unfound-none : (l : List ℕ) → first rule l ≡ Nothing → keep test l ≡ []
+  unfound-none : (l : List ℕ) → first rule l ≡ None → keep test l ≡ []
   unfound-none l e =
-      keep-none test l (all-map (λ x. rule x ≡ Nothing) (λ x. test x ≡ false) (λ x d. when-nothing (test x) x d) l (first-all rule l e))
+      keep-none test l (all-map (λ x. rule x ≡ None) (λ x. test x ≡ false) (λ x d. when-nothing (test x) x d) l (first-all rule l e))
 
   -- nothing is found: there is no only one
-  pub only-none : (l : List ℕ) → first rule l ≡ Nothing → only (keep test l) ≡ Nothing
+  pub only-none : (l : List ℕ) → first rule l ≡ None → only (keep test l) ≡ None
   unfolding only
   only-none l e = ap only (unfound-none l e)
 
   module _ (next : ℕ → ℕ) (end : ℕ) (grows : (p : ℕ) → p < next p) where
     -- what is found comes first, and then what is kept after it
-    keep-found : (a p : ℕ) → search rule next end a ≡ At p → keep test (chain next end a) ≡ p ∷ keep test (chain next end (next p))
+    keep-found : (a p : ℕ) → search rule next end a ≡ Some p → keep test (chain next end a) ≡ p ∷ keep test (chain next end (next p))
     unfolding keep
     keep-found =
-        chain-ind next end grows (λ a. (p : ℕ) → search rule next end a ≡ At p → keep test (chain next end a) ≡ p ∷ keep test (chain next end (next p)))
+        chain-ind next end grows (λ a. (p : ℕ) → search rule next end a ≡ Some p → keep test (chain next end a) ≡ p ∷ keep test (chain next end (next p)))
         (λ a h p e. absurd (at-nothing (sym e ∙ search-end rule next end grows a h)))
         (λ a h ih p e.
         ap (keep test) (chain-more next end grows a h) ∙ go a p (ih p) (test a) (sym (search-more rule next end grows a h) ∙ e))
       where
-        go : (a p : ℕ) → (search rule next end (next a) ≡ At p → keep test (chain next end (next a)) ≡ p ∷ keep test (chain next end (next p))) → (b : Bool)
-            → or_else (when b a) (search rule next end (next a)) ≡ At p
+        go : (a p : ℕ) → (search rule next end (next a) ≡ Some p → keep test (chain next end (next a)) ≡ p ∷ keep test (chain next end (next p))) → (b : Bool)
+            → or_else (when b a) (search rule next end (next a)) ≡ Some p
             → cond b (a ∷ keep test (chain next end (next a))) (keep test (chain next end (next a))) ≡ p ∷ keep test (chain next end (next p))
         go a p ih true e = let d : a ≡ p = cc in ap (λ (x : ℕ). x ∷ keep test (chain next end (next x))) d
         go a p ih false e = ih e
 
     -- one is found, and none after it: this is the only one
-    pub only-one : (a p : ℕ) → search rule next end a ≡ At p → search rule next end (next p) ≡ Nothing → only (keep test (chain next end a)) ≡ At p
+    pub only-one : (a p : ℕ) → search rule next end a ≡ Some p → search rule next end (next p) ≡ None → only (keep test (chain next end a)) ≡ Some p
     unfolding only
     only-one a p e n = ap only (keep-found a p e ∙ ap (λ (l : List ℕ). p ∷ l) (unfound-none (chain next end (next p)) n))
 
     -- one is found, and one more after it: there is no only one
-    pub only-two : (a p q : ℕ) → search rule next end a ≡ At p → search rule next end (next p) ≡ At q → only (keep test (chain next end a)) ≡ Nothing
+    pub only-two : (a p q : ℕ) → search rule next end a ≡ Some p → search rule next end (next p) ≡ Some q → only (keep test (chain next end a)) ≡ None
     unfolding only
     only-two a p q e m = ap only (keep-found a p e ∙ ap (λ (l : List ℕ). p ∷ l) (keep-found (next p) q m))

@@ -1,14 +1,13 @@
 -- Loops along a chain. A loop that stands at place p has as its invariant that the answer from p on is the answer r of the whole;
 -- each law below is one way on from there: a turn to the next place q, a return, or the end. Assumes nothing.
 use Prim.Native.Nat.{ℕ, zero, suc, ◌+◌, ◌-◌, ◌≤◌, ◌<◌}
-use Rattle.std.specs.Prelude.{List, ◌∷◌, ◌≡◌, length}
+use Rattle.std.specs.Prelude.{List, ◌∷◌, ◌≡◌, length, true, false, is_some, Some, None}
 use Rattle.std.proofs.Math.Path.{sym, ap}
 use Rattle.std.proofs.Common.{◌∙◌, arith}
 use Rattle.chain.specs.Chain.{chain, ahead}
 use Rattle.chain.specs.First.{or_else, first, search}
 use Rattle.chain.specs.Nth.{nth}
-use Rattle.chain.specs.declared.Found.{Found}
-use Rattle.chain.specs.declared.Found.TheVariants.{At, Nothing}
+use Rattle.chain.specs.Found.{Found}
 use Rattle.chain.proofs.laws.Chain.{chain-end, chain-more}
 use Rattle.chain.proofs.laws.First.{or_else-left, or_else-right}
 use Rattle.chain.proofs.laws.Places.{count-end, count-more}
@@ -19,7 +18,7 @@ one-grows p = omega arith
 
 -- ---- a search: `search rule next end p ≡ r`
 module _ (rule : ℕ → Found) (next : ℕ → ℕ) (end : ℕ) (grows : (p : ℕ) → p < next p) where
-  pub search-end : (p : ℕ) → end ≤ p → search rule next end p ≡ Nothing
+  pub search-end : (p : ℕ) → end ≤ p → search rule next end p ≡ None
   unfolding first
   search-end p h = rw (chain-end next end grows p h)
 
@@ -31,22 +30,31 @@ module _ (rule : ℕ → Found) (next : ℕ → ℕ) (end : ℕ) (grows : (p : �
   here p f h e = sym (search-more p h ∙ ap (λ (g : Found). or_else g (search rule next end (next p))) e)
 
   -- the item at p keeps the rule: on to q
-  pub turn : (p q : ℕ) {r : Found} → p < end → rule p ≡ Nothing → q ≡ next p → search rule next end p ≡ r → search rule next end q ≡ r
-  turn p q h e n inv = ap (search rule next end) n ∙ here p Nothing h e ∙ inv
+  pub turn : (p q : ℕ) {r : Found} → p < end → rule p ≡ None → q ≡ next p → search rule next end p ≡ r → search rule next end q ≡ r
+  turn p q h e n inv = ap (search rule next end) n ∙ here p None h e ∙ inv
 
   -- it breaks the rule: this is the answer
-  pub hit : (p q : ℕ) {r : Found} → p < end → rule p ≡ At q → search rule next end p ≡ r → At q ≡ r
-  hit p q h e inv = here p (At q) h e ∙ inv
+  pub hit : (p q : ℕ) {r : Found} → p < end → rule p ≡ Some q → search rule next end p ≡ r → Some q ≡ r
+  hit p q h e inv = here p (Some q) h e ∙ inv
+
+  -- the same by the library's test of what the rule says there
+  pub hit-some : (p : ℕ) (f : Found) {r : Found} → p < end → f ≡ rule p → is_some f ≡ true → search rule next end p ≡ r → f ≡ r
+  hit-some p (Some q) h e s inv = hit p q h (sym e) inv
+  hit-some p None h e s inv = cc
+
+  pub turn-none : (p q : ℕ) (f : Found) {r : Found} → p < end → f ≡ rule p → is_some f ≡ false → q ≡ next p → search rule next end p ≡ r → search rule next end q ≡ r
+  turn-none p q None h e s n inv = turn p q h (sym e) n inv
+  turn-none p q (Some f) h e s n inv = cc
 
   -- no item is left: nothing was found
-  pub done : (p : ℕ) {r : Found} → end ≤ p → search rule next end p ≡ r → Nothing ≡ r
+  pub done : (p : ℕ) {r : Found} → end ≤ p → search rule next end p ≡ r → None ≡ r
   done p h inv = sym (search-end p h) ∙ inv
 
   -- a rule known to find nothing from p on is not broken at p, and finds nothing from the next place on
-  pub clear-here : (p : ℕ) → p < end → search rule next end p ≡ Nothing → rule p ≡ Nothing
+  pub clear-here : (p : ℕ) → p < end → search rule next end p ≡ None → rule p ≡ None
   clear-here p h e = or_else-left (rule p) (search rule next end (next p)) (sym (search-more p h) ∙ e)
 
-  pub clear-on : (p q : ℕ) → p < end → q ≡ next p → search rule next end p ≡ Nothing → search rule next end q ≡ Nothing
+  pub clear-on : (p q : ℕ) → p < end → q ≡ next p → search rule next end p ≡ None → search rule next end q ≡ None
   clear-on p q h n e =
       ap (search rule next end) n ∙ or_else-right (rule p) (search rule next end (next p)) (sym (search-more p h) ∙ e)
 
@@ -69,10 +77,10 @@ module _ (next : ℕ → ℕ) (end : ℕ) (grows : (p : ℕ) → p < next p) whe
       ap (λ (x : ℕ). nth (chain next end x) (n - 1)) e ∙ sym (nth-less p (chain next end (next p)) n k)
       ∙ ap (λ (l : List ℕ). nth l n) (sym (chain-more next end grows p h)) ∙ inv
 
-  pub nth-hit : (n p : ℕ) {r : Found} → p < end → n ≡ 0 → nth (chain next end p) n ≡ r → At p ≡ r
+  pub nth-hit : (n p : ℕ) {r : Found} → p < end → n ≡ 0 → nth (chain next end p) n ≡ r → Some p ≡ r
   unfolding nth
   nth-hit n p h z inv = sym (rw (z, chain-more next end grows p h)) ∙ inv
 
-  pub nth-done : (n p : ℕ) {r : Found} → end ≤ p → nth (chain next end p) n ≡ r → Nothing ≡ r
+  pub nth-done : (n p : ℕ) {r : Found} → end ≤ p → nth (chain next end p) n ≡ r → None ≡ r
   unfolding nth
   nth-done n p h inv = sym (rw (chain-end next end grows p h)) ∙ inv

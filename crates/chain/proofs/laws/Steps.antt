@@ -1,6 +1,6 @@
 -- Items of one size d, end to end from p: n of them, up to p + n * d. A range is the case d = 1. Assumes nothing.
 use Prim.Native.Nat.{ℕ, zero, suc, ◌+◌, ◌*◌, ◌≤◌, ◌<◌}
-use Rattle.std.specs.Prelude.{Bool, ◌≡◌, ltb, length}
+use Rattle.std.specs.Prelude.{Bool, ◌≡◌, ltb, length, Some}
 use Rattle.std.proofs.Math.Logic.{inl, inr}
 use Rattle.std.proofs.Common.{sym, ◌∙◌, arith}
 use Rattle.std.proofs.Math.Path.{ap}
@@ -9,7 +9,6 @@ use Rattle.chain.specs.All.{All}
 use Rattle.chain.specs.Chain.{chain, ahead}
 use Rattle.chain.specs.First.{when}
 use Rattle.chain.specs.Nth.{nth}
-use Rattle.chain.specs.declared.Found.TheVariants.{At}
 use Rattle.chain.proofs.laws.All.{all-map}
 use Rattle.chain.proofs.laws.Below.{below}
 use Rattle.chain.proofs.laws.Chain.{chain-end, chain-more}
@@ -35,13 +34,13 @@ module _ (d : ℕ) (pos : 0 < d) where
       )
 
   -- item i starts at p + i * d
-  pub steps-nth : (n p end i : ℕ) → end ≡ p + n * d → i < n → nth (chain (ahead d) end p) i ≡ At (p + i * d)
+  pub steps-nth : (n p end i : ℕ) → end ≡ p + n * d → i < n → nth (chain (ahead d) end p) i ≡ Some (p + i * d)
   unfolding nth
   steps-nth zero p end i e h = absurd (omega arith)
   steps-nth (suc n) p end zero e h =
-      rw (chain-more (ahead d) end ahead-grows p (omega arith)) (ap At (omega arith))
+      rw (chain-more (ahead d) end ahead-grows p (omega arith)) (ap Some (omega arith))
   steps-nth (suc n) p end (suc i) e h =
-      rw (chain-more (ahead d) end ahead-grows p (omega arith)) (steps-nth n (p + d) end i (omega arith) (omega arith) ∙ ap At (omega arith))
+      rw (chain-more (ahead d) end ahead-grows p (omega arith)) (steps-nth n (p + d) end i (omega arith) (omega arith) ∙ ap Some (omega arith))
 
   -- and there is an item i exactly where that lies before the end, wherever the end is
   none-past : (i p end : ℕ) → end ≤ p → nth (chain (ahead d) end p) i ≡ when (ltb (p + i * d) end) (p + i * d)

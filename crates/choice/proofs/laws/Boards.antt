@@ -2,38 +2,20 @@
 -- Assumes nothing.
 use Rattle.std.specs.Prelude.{ℕ, ◌+◌, ◌<◌, Bool, true, false, ◌&&◌, List, ◌↔◌, ◌≡◌, refl, eqb, ltb}
 use Rattle.std.proofs.lemmas.Bool.{false≢true}
-use Rattle.std.proofs.Common.{ap}
+use Rattle.std.proofs.Common.{ap, ◌∙◌}
 use borrow.Author.Tests.{eqb-true, eq-eqb, ltb-true, lt-ltb}
 use Rattle.board_layout.specs.Layout.{board_at}
 use Rattle.board_layout.specs.Places.{Version, ManuName, BrdName, BoardId, FabId, EcId, BoardType}
+use Rattle.choice.specs.Boards.{board_of}
+use Rattle.choice.specs.declared.Board.{Board}
 use Rattle.choice.specs.Choice.{same_ids, same_board_at, same_board, eeprom_wins}
 use Rattle.octets.specs.Bytes.{byte, run, le32}
 use Rattle.octets.specs.Runs.{same_run}
-use Rattle.octets.proofs.laws.Runs.{same-is-equal, equal-is-same}
-
--- the fields that say which board it is. (BrdSerial is none of them.)
-pub record Board : Type 0 where
-  pub manu_name : List ℕ
-  pub brd_name : List ℕ
-  pub board_id : ℕ
-  pub fab_id : ℕ
-  pub ec_id : ℕ
-  pub board_type : ℕ
-
--- those of the board structure at p, and an image's own
-abbrev pub board_from : List ℕ → ℕ → Board
-board_from s p =
-    record {
-      manu_name = run s (p + ManuName) 16;
-      brd_name = run s (p + BrdName) 16;
-      board_id = le32 s (p + BoardId);
-      fab_id = le32 s (p + FabId);
-      ec_id = le32 s (p + EcId);
-      board_type = byte s (p + BoardType);
-    }
-
-abbrev pub board_of : List ℕ → Board
-board_of s = board_from s (board_at s)
+use Rattle.octets.proofs.laws.Runs.{same-is-equal, equal-is-same, means-same-run}
+use Rattle.chain.proofs.laws.Means.{means-same}
+use Rattle.std.specs.Cmp.Lexicographic.{pointwise}
+use Rattle.std.proofs.lemmas.Slice.Eq.{slice_eq-Decides}
+use Rattle.std.proofs.lemmas.Bool.Decides.{Decides-eqb}
 
 -- the EEPROM image is of the same board and has the greater Version
 abbrev pub Newer : List ℕ → List ℕ → Type 0
@@ -91,3 +73,33 @@ module _ (f e : List ℕ) where
     λ h. let parts = both (same_board f e) (ltb (le32 f Version) (le32 e Version)) h in (same-board-equal parts.0, ltb-true _ _ parts.1),
     λ h. rw (equal-same-board h.0, lt-ltb _ _ h.1),
   )
+
+-- ---- two boards compared field by field, as derived equality does: the same test
+regrouped : (v w x y z t : Bool) → v && (w && (x && (y && (z && t)))) ≡ v && w && (x && y && z && t)
+regrouped false w x y z t = refl
+regrouped true false x y z t = refl
+regrouped true true false y z t = refl
+regrouped true true true false z t = refl
+regrouped true true true true z t = refl
+
+same-names : (f : List ℕ) (p : ℕ) (e : List ℕ) (q : ℕ) → pointwise eqb (run f p 16) (run e q 16) ≡ same_run f p e q 16
+same-names f p e q =
+    means-same (pointwise eqb (run f p 16) (run e q 16)) (same_run f p e q 16)
+    (slice_eq-Decides Decides-eqb (run f p 16) (run e q 16) (pointwise eqb (run f p 16) (run e q 16)) refl) (means-same-run f p e q 16)
+
+pub compared : (f e : List ℕ) (b : Bool) (x y : Board) → x ≡ board_of f → y ≡ board_of e
+    → b ≡ pointwise eqb x.manu_name y.manu_name
+    && (pointwise eqb x.brd_name y.brd_name
+    && (eqb x.board_id y.board_id && (eqb x.fab_id y.fab_id && (eqb x.ec_id y.ec_id && eqb x.board_type y.board_type))))
+    → b ≡ same_board f e
+unfolding same_board_at same_ids
+compared f e b x y i j told =
+    told
+    ∙ rw (
+      i,
+      j,
+      same-names f (board_at f + ManuName) e (board_at e + ManuName),
+      same-names f (board_at f + BrdName) e (board_at e + BrdName),
+    ) (regrouped (same_run f (board_at f + ManuName) e (board_at e + ManuName) 16) (same_run f (board_at f + BrdName) e (board_at e + BrdName) 16)
+    (eqb (board_of f).board_id (board_of e).board_id) (eqb (board_of f).fab_id (board_of e).fab_id) (eqb (board_of f).ec_id (board_of e).ec_id)
+    (eqb (board_of f).board_type (board_of e).board_type))

@@ -1,5 +1,5 @@
 -- The choice and the part depend on no more than the first StructLen bytes of an accepted image: what else is lent does not count. Assumes nothing.
-use Rattle.std.specs.Prelude.{ℕ, ◌+◌, ◌≤◌, Bool, true, false, List, ◌⊎◌, ◌≡◌, length}
+use Rattle.std.specs.Prelude.{ℕ, ◌+◌, ◌≤◌, Bool, true, false, List, ◌⊎◌, ◌≡◌, length, Ok, Err}
 use Rattle.std.proofs.Math.Bool.{cond}
 use Rattle.std.proofs.Common.{inl, inr, sym, ◌∙◌, arith, length-take, get_or-take, length-take-le}
 use Rattle.std.proofs.Math.Path.{refl, ap, ap₂, subst}
@@ -11,15 +11,15 @@ use Rattle.board_rules.specs.Judged.{judged}
 use Rattle.board_rules.proofs.laws.Accepted.{lent-within, struct-len-within, struct-len-least, three-fit, board-ends}
 use Rattle.board_rules.proofs.laws.Same.{judged-same}
 use Rattle.choice.specs.Choice.{eeprom_wins, choice_if, choice_of, part, chosen_of}
-use Rattle.choice.specs.declared.ChoiceAnswer.{ChoiceAnswer}
-use Rattle.choice.specs.declared.ChoiceAnswer.TheVariants.{Firmware, Eeprom, Neither}
-use Rattle.choice.proofs.laws.Boards.{board_from, board_of, Newer, wins-exactly}
+use Rattle.choice.specs.AnswerTypes.{ChoiceAnswer}
+use Rattle.choice.specs.declared.Part.TheVariants.{Firmware, Eeprom}
+use Rattle.choice.specs.Boards.{board_from, board_of}
+use Rattle.choice.proofs.laws.Boards.{Newer, wins-exactly}
 use Rattle.choice.proofs.laws.Exactly.{Accepts, Says, choice-says}
 use Rattle.kinds.specs.declared.Kinds.{Kinds}
 use Rattle.octets.specs.Bytes.{byte, le32}
 use Rattle.octets.proofs.laws.Same.{Same, byte-same, run-same, le32-same}
-use Rattle.verdict.specs.declared.Judged.{Judged}
-use Rattle.verdict.specs.declared.Judged.TheVariants.{Accepted, Refused}
+use Rattle.verdict.specs.Answers.{Judged}
 
 -- all that the choice looks at
 record Like (k : Kinds) (s t : List ℕ) : Type 0 where
@@ -30,7 +30,7 @@ record Like (k : Kinds) (s t : List ℕ) : Type 0 where
   front : take (struct_len s) s ≡ take (struct_len s) t
 
 -- ---- it lies in the first StructLen bytes of an accepted image
-module _ (k : Kinds) (s t : List ℕ) (n : ℕ) (a : judged k s ≡ Accepted n) (front : take (struct_len s) s ≡ take (struct_len s) t) (most : length t ≤ 65536) where
+module _ (k : Kinds) (s t : List ℕ) (n : ℕ) (a : judged k s ≡ Ok n) (front : take (struct_len s) s ≡ take (struct_len s) t) (most : length t ≤ 65536) where
   long : 0x20 ≤ struct_len s
   long = struct-len-least k s n a
 
@@ -93,19 +93,19 @@ module _ (k : Kinds) (f g e d : List ℕ) (F : Like k f g) (E : Like k e d) wher
   choice-like = go (judged k f) (judged k e) ∙ ap₂ (choice_if g d) F.verdict E.verdict
     where
       go : (x y : Judged) → choice_if f e x y ≡ choice_if g d x y
-      go (Accepted n) (Accepted m) = λ i. cond (wins-like i) (Eeprom (E.len i)) (Firmware (F.len i))
-      go (Accepted n) (Refused q) = ap Firmware F.len
-      go (Refused r) (Accepted m) = ap Eeprom E.len
-      go (Refused r) (Refused q) = refl
+      go (Ok n) (Ok m) = λ i. cond (wins-like i) (Ok (Eeprom (E.len i))) (Ok (Firmware (F.len i)))
+      go (Ok n) (Err q) = ap (λ (n : ℕ). Ok (Firmware n)) F.len
+      go (Err r) (Ok m) = ap (λ (n : ℕ). Ok (Eeprom n)) E.len
+      go (Err r) (Err q) = refl
 
   part-like : chosen_of k f e ≡ chosen_of k g d
   unfolding chosen_of
   part-like = go (choice_of k f e) (choice-says k f e) ∙ ap (part g d) choice-like
     where
       go : (a : ChoiceAnswer) → Says k f e a → part f e a ≡ part g d a
-      go (Firmware n) s = subst (λ m. take m f ≡ take m g) s.1 F.front
-      go (Eeprom n) s = subst (λ m. take m e ≡ take m d) s.1 E.front
-      go (Neither r) s = refl
+      go (Ok (Firmware n)) s = subst (λ m. take m f ≡ take m g) s.1 F.front
+      go (Ok (Eeprom n)) s = subst (λ m. take m e ≡ take m d) s.1 E.front
+      go (Err r) s = refl
 
 -- the same image; or one that is accepted, and at most 65,536 bytes that start with its first StructLen
 abbrev pub Starts : Kinds → List ℕ → List ℕ → Type 0

@@ -1,9 +1,6 @@
--- `put_all` meets its contract: each turn goes on by a record, which has at least twelve bytes. Assumes nothing.
-use Rattle.std.proofs.Common.{◌-◌, ◌≤◌}
+-- `put_all` meets its contract: each turn leaves less of the input, at least by the four bytes of a list. Assumes nothing.
+use Rattle.std.proofs.Common.{length}
 use Rattle.choice_answers.proofs.put_all.Given as goal
 
-abbrev pub invariant-loop-at : goal.invariant-loop-at
-invariant-loop-at g l = l.at ≤ l.n
-
-abbrev pub decreases-loop-at : goal.decreases-loop-at
-decreases-loop-at g l = l.n - l.at
+abbrev pub decreases-loop-pair : goal.decreases-loop-pair
+decreases-loop-pair g l = length l.rest

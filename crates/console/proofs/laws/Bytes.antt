@@ -1,5 +1,5 @@
 -- A loop that reads the bytes of a part and puts them into a buffer. Assumes nothing.
-use Rattle.std.specs.Prelude.{ℕ, zero, suc, ◌+◌, ◌≤◌, ◌<◌, Bool, cond, ◌&&◌, ◌≡◌, eqb, set, drop}
+use Rattle.std.specs.Prelude.{ℕ, zero, suc, ◌+◌, ◌≤◌, ◌<◌, Bool, cond, ◌&&◌, ◌≡◌, eqb, set, drop, Option, Some, None}
 use Rattle.std.proofs.Math.Bool.{true, false}
 use mathlib.Core.List.{List, [], ◌∷◌}
 use Rattle.std.proofs.Math.Path.{refl, sym, ap}
@@ -8,7 +8,6 @@ use Rattle.std.proofs.Math.Dec.{leb, ltb}
 use Rattle.std.proofs.Math.ListN.{length, get_or, get_or-eq_default}
 use Rattle.std.proofs.Math.Seq.{get_or-drop}
 use borrow.Author.Tests.{eq-eqb, ne_eqb, lt-ltb, le-ltb, le-leb, lt-leb}
-use Rattle.console.specs.declared.request.Part.{Part}
 use Rattle.console.specs.Request.{value, given, two_digits, bytes_in, all_pairs, count_in, over}
 use Rattle.console.proofs.laws.Request.{rest-more, rest-end}
 
@@ -99,17 +98,17 @@ module _ (l lent : List ℕ) where
     pub long : length buffer ≡ length lent
 
   -- what it answers, and what the buffer then holds
-  abbrev pub Ended : Part → List ℕ → Type 0
+  abbrev pub Ended : Option ℕ → List ℕ → Type 0
   Ended r buffer = (r ≡ count_in (length lent) l) × (buffer ≡ over (bytes_in l) lent)
 
-  pub going-start : Going 0 0 lent
+  pub going_start : Going 0 0 lent
   unfolding over_at
-  going-start = record { pairs = refl; number = omega arith; holds = refl; room = omega arith; long = refl }
+  going_start = record { pairs = refl; number = omega arith; holds = refl; room = omega arith; long = refl }
 
   module _ (at n : ℕ) (buffer : List ℕ) (g : Going at n buffer) where
-    pub going-done : length l ≤ at → Ended (given true n) buffer
+    pub going_done : length l ≤ at → Ended (Some n) buffer
     unfolding count_in bytes_in all_pairs
-    going-done h =
+    going_done h =
         let z = rest-end l at h in
         let e : n ≡ length (bytes_in l) = omega (arith, g.number, ap (λ (m : List ℕ). length (bytes_in m)) z) in
         let p : all_pairs l ≡ true = sym g.pairs ∙ ap all_pairs z in
@@ -123,8 +122,8 @@ module _ (l lent : List ℕ) where
           rest-more l at h
           ∙ ap (λ (m : List ℕ). get_or l at 0 ∷ m) (rest-more l (at + 1) (two-within l at (get_or l at 0) b h e k) ∙ ap (λ (j : ℕ). get_or l (at + 1) 0 ∷ drop j l) z)
 
-      pub going-blank : get_or l at 0 ≡ 0x20 → Going (at + 1) n buffer
-      going-blank e =
+      pub going_blank : get_or l at 0 ≡ 0x20 → Going (at + 1) n buffer
+      going_blank e =
           let b = eq-eqb _ _ e in
           let m = rest-more l at h in
           let f : bytes_in (drop at l) ≡ bytes_in (drop (at + 1) l) = ap bytes_in m ∙ bytes-blank _ _ b in
@@ -138,8 +137,8 @@ module _ (l lent : List ℕ) where
 
       module _ (other : get_or l at 0 ≡ 0x20 → ⊥) where
         -- a pair of digits, and room for its byte
-        pub going-pair : (b : ℕ) → b ≡ two_digits (get_or l at 0) (get_or l (at + 1) 0) → b < 256 → n < length buffer → Going (at + 2) (n + 1) (set buffer n b)
-        going-pair b e k s =
+        pub going_pair : (b : ℕ) → b ≡ two_digits (get_or l at 0) (get_or l (at + 1) 0) → b < 256 → n < length buffer → Going (at + 2) (n + 1) (set buffer n b)
+        going_pair b e k s =
             let m = two-rest b e k in
             let o = ne_eqb (get_or l at 0) 0x20 other in
             let t : ltb (two_digits (get_or l at 0) (get_or l (at + 1) 0)) 256 ≡ true = lt-ltb _ 256 (subst (λ (x : ℕ). x < 256) e k) in
@@ -156,9 +155,9 @@ module _ (l lent : List ℕ) where
             }
 
         -- a pair of digits, and no room
-        pub going-full : (b : ℕ) → b ≡ two_digits (get_or l at 0) (get_or l (at + 1) 0) → b < 256 → length buffer ≤ n → Ended (given false 0) buffer
+        pub going_full : (b : ℕ) → b ≡ two_digits (get_or l at 0) (get_or l (at + 1) 0) → b < 256 → length buffer ≤ n → Ended (None) buffer
         unfolding count_in
-        going-full b e k s =
+        going_full b e k s =
             let m = two-rest b e k in
             let o = ne_eqb (get_or l at 0) 0x20 other in
             let t : ltb (two_digits (get_or l at 0) (get_or l (at + 1) 0)) 256 ≡ true = lt-ltb _ 256 (subst (λ (x : ℕ). x < 256) e k) in
@@ -166,14 +165,14 @@ module _ (l lent : List ℕ) where
             let q : leb (length (bytes_in l)) (length lent) ≡ false = lt-leb (length (bytes_in l)) (length lent) (omega (arith, g.number, g.long, ap (λ (k : List ℕ). length k) f)) in
             (sym (ap (λ (x : Bool). given (all_pairs l && x) (length (bytes_in l))) q ∙ none (all_pairs l)), sym (over-full buffer (bytes_in (drop at l)) n s) ∙ g.holds)
           where
-            none : (x : Bool) → given (x && false) (length (bytes_in l)) ≡ given false 0
+            none : (x : Bool) → given (x && false) (length (bytes_in l)) ≡ None
             none true = refl
             none false = refl
 
         -- something else
-        pub going-bad : 256 ≤ two_digits (get_or l at 0) (get_or l (at + 1) 0) → Ended (given false 0) buffer
+        pub going_bad : 256 ≤ two_digits (get_or l at 0) (get_or l (at + 1) 0) → Ended (None) buffer
         unfolding count_in
-        going-bad k =
+        going_bad k =
             let m = rest-more l at h in
             let o = ne_eqb (get_or l at 0) 0x20 other in
             let d : get_or (drop (at + 1) l) 0 0 ≡ get_or l (at + 1) 0 = get_or-drop (at + 1) l 0 0 ∙ ap (λ (j : ℕ). get_or l j 0) (add-zero (at + 1)) in

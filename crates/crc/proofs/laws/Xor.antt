@@ -1,10 +1,9 @@
--- Laws of exclusive or that `lib.Bits` lacks: it is associative, and a bit times a number is spread over it. A law of three numbers goes by their last
--- bits and the rest of them (`xor_step`).
+-- Laws of exclusive or: what it makes of the last bits and of the rest, the middle two of four change places, and a bit times a number is spread over it.
 -- Assumes nothing.
-use Rattle.std.specs.Prelude.{◌≡◌, refl, ℕ, zero, suc, ◌+◌, ◌*◌, ◌/◌, ◌%◌, ◌<◌}
-use Rattle.std.proofs.Common.{sym, ap, ap₂, ◌∙◌, mod-lt, zero-lt-suc, le_of_suc-le-suc, not-suc-le-zero, zero-mul, arith}
-use Rattle.std.proofs.Math.Arith.{bin_ind, digits_mod}
-use Rattle.std.specs.Int.Bits.{bit_xor, differ, xor_step, xor_self, xor_zero_r}
+use Rattle.std.specs.Prelude.{◌≡◌, refl, ℕ, zero, suc, ◌*◌, ◌/◌, ◌%◌, ◌<◌}
+use Rattle.std.proofs.Common.{sym, ap, ◌∙◌, mod-lt, zero-lt-suc, le_of_suc-le-suc, not-suc-le-zero, zero-mul, arith}
+use Rattle.std.proofs.Math.Arith.{digits_mod}
+use Rattle.std.specs.Int.Bits.{bit_xor, differ, xor_step, xor_self, xor_zero_r, xor_assoc}
 use Rattle.std.proofs.lemmas.Nat.{xor_shr, xor_comm}
 
 -- a fact of 0 and of 1 is one of each bit
@@ -41,21 +40,14 @@ xor-odd a b =
 
 -- of three numbers
 pub xor-assoc : (a b c : ℕ) → bit_xor (bit_xor a b) c ≡ bit_xor a (bit_xor b c)
-xor-assoc a =
-    bin_ind (λ (n : ℕ). (b c : ℕ) → bit_xor (bit_xor n b) c ≡ bit_xor n (bit_xor b c)) (λ b c. refl)
-    (λ n ih b c.
-    xor_step (bit_xor n b) c
-    ∙ ap₂ (λ (x y : ℕ). bit_xor x (c / 2) * 2 + differ y (c % 2)) (xor-half n b) (xor-odd n b)
-    ∙ ap₂ (λ (x y : ℕ). x * 2 + y) (ih (b / 2) (c / 2)) (differ-assoc (n % 2) (b % 2) (c % 2) (odd-lt n) (odd-lt b) (odd-lt c))
-    ∙ ap₂ (λ (x y : ℕ). bit_xor (n / 2) x * 2 + differ (n % 2) y) (sym (xor-half b c)) (sym (xor-odd b c))
-    ∙ sym (xor_step n (bit_xor b c))) a
+xor-assoc = xor_assoc
 
 -- the middle two of four change places
 pub xor4 : (a b c d : ℕ) → bit_xor (bit_xor a b) (bit_xor c d) ≡ bit_xor (bit_xor a c) (bit_xor b d)
 xor4 a b c d =
-    xor-assoc a b (bit_xor c d)
-    ∙ ap (bit_xor a) (sym (xor-assoc b c d) ∙ ap (λ (x : ℕ). bit_xor x d) (xor_comm b c) ∙ xor-assoc c b d)
-    ∙ sym (xor-assoc a c (bit_xor b d))
+    xor_assoc a b (bit_xor c d)
+    ∙ ap (bit_xor a) (sym (xor_assoc b c d) ∙ ap (λ (x : ℕ). bit_xor x d) (xor_comm b c) ∙ xor_assoc c b d)
+    ∙ sym (xor_assoc a c (bit_xor b d))
 
 -- a bit times p
 pub bit-mul : (p x y : ℕ) → x < 2 → y < 2 → differ x y * p ≡ bit_xor (x * p) (y * p)

@@ -1,11 +1,12 @@
 -- Nothing is lost on the way to C: what it takes out of a number is what the judge, the name or the choice says. A refusal's number fits in eight bits and is
 -- not 0; a count, a length and a place fit in 32 bits. Assumes nothing.
-use Rattle.std.specs.Prelude.{ℕ, ◌≤◌, ◌<◌, Bool, cond, List, ◌≡◌, refl, eqb}
+use Rattle.std.specs.Prelude.{ℕ, ◌≤◌, ◌<◌, Bool, cond, List, ◌≡◌, refl, eqb, Ok, Err}
 use Rattle.std.proofs.Common.{ap, ap₂, ◌∙◌, arith, eq-eqb, ne_eqb}
 use Rattle.board_rules.specs.Judged as board
 use Rattle.board_rules.proofs.laws.Bounds as board-bounds
 use Rattle.choice.specs.Choice.{Chosen, choice_of, choice_said}
-use Rattle.choice.specs.declared.ChoiceAnswer.{ChoiceAnswer}
+use Rattle.choice.specs.AnswerTypes.{ChoiceAnswer}
+use Rattle.choice.specs.declared.Part.TheVariants.{Firmware, Eeprom}
 use Rattle.choice.proofs.laws.Exactly.{Says, choice-says}
 use Rattle.host.specs.Numbers.{number, chosen_number, refusal_bits, low_bits, eeprom_bit, taken, taken_choice}
 use Rattle.kinds.specs.declared.Kinds.{Kinds}
@@ -17,8 +18,7 @@ use Rattle.tiny_rules.specs.Judged as tiny
 use Rattle.tiny_rules.proofs.laws.Bounds as tiny-bounds
 use Rattle.verdict.specs.Said.{Said, says, refused, judged_said}
 use Rattle.verdict.specs.Verdict.{refusal}
-use Rattle.verdict.specs.declared.Judged.{Judged}
-use Rattle.verdict.specs.declared.Judged.TheVariants.{Accepted, Refused}
+use Rattle.verdict.specs.Answers.{Judged}
 
 -- ---- one number
 -- what is taken out of a: the value, by what the refusal bits say
@@ -56,10 +56,10 @@ choice-taken c one low =
     ∙ ap₂ (λ (w l : ℕ). says (record { which = w; length = l })) (omega arith) (omega arith)
 
 -- ---- what a judge says, by the bounds of its refusals and of its counts
-judge-taken : (j : Judged) → ((n p : ℕ) → j ≡ refusal n p → (1 ≤ n) × (n < 0x100) × (p < 0x100000000)) → ((n : ℕ) → j ≡ Accepted n → n < 0x100000000)
+judge-taken : (j : Judged) → ((n p : ℕ) → j ≡ refusal n p → (1 ≤ n) × (n < 0x100) × (p < 0x100000000)) → ((n : ℕ) → j ≡ Ok n → n < 0x100000000)
     → taken (number (judged_said j)) ≡ judged_said j
-judge-taken (Accepted n) refusals counts = value-taken n (counts n refl)
-judge-taken (Refused r) refusals counts = let b = refusals r.number r.place refl in refusal-taken r.number r.place b.0 b.1 b.2
+judge-taken (Ok n) refusals counts = value-taken n (counts n refl)
+judge-taken (Err r) refusals counts = let b = refusals r.number r.place refl in refusal-taken r.number r.place b.0 b.1 b.2
 
 -- the judge of tiny images
 pub tiny-judge-lossless : (k : Kinds) (s : List ℕ) → Octets s → taken (number (judged_said (tiny.judged k s))) ≡ judged_said (tiny.judged k s)
@@ -88,10 +88,10 @@ pub choice-lossless : (k : Kinds) (f e : List ℕ) → taken_choice (chosen_numb
 choice-lossless k f e = go (choice_of k f e) (choice-says k f e)
   where
     go : (a : ChoiceAnswer) → Says k f e a → taken_choice (chosen_number (choice_said a)) ≡ choice_said a
-    go (ChoiceAnswer.Firmware n) h =
+    go (Ok (Firmware n)) h =
         choice-taken (record { which = 0; length = n }) (omega arith) (omega (arith, h.1, (board-bounds.accepted-bounds k f h.0.0 h.0.1).1))
-    go (ChoiceAnswer.Eeprom n) h =
+    go (Ok (Eeprom n)) h =
         choice-taken (record { which = 1; length = n }) (omega arith) (omega (arith, h.1, (board-bounds.accepted-bounds k e h.0.0 h.0.1).1))
-    go (ChoiceAnswer.Neither r) h =
+    go (Err r) h =
         let b = board-bounds.refused-bounds k f r.number r.place h.0 in
         refusal-kept (says _) r.number r.place (omega (arith, b.0)) (omega (arith, b.1)) (omega (arith, b.2))

@@ -10,6 +10,7 @@ use Rattle.chain.specs.Fill.{tab}
 use Rattle.chain.proofs.laws.Below.{below}
 use Rattle.chain.proofs.laws.Fill.{length-tab, get_or-tab, tab-agree, tab-append}
 use Rattle.octets.specs.Bytes.{byte, Octets, run, little, le16, le32, le64}
+use Rattle.octets.specs.Runs.{sixteen}
 
 pub byte-past : (s : List ℕ) (p : ℕ) → length s ≤ p → byte s p ≡ 0
 byte-past s p h = get_or-eq_default s 0 h
@@ -65,6 +66,10 @@ run-append s p m n =
 -- the run of all the bytes
 pub run-all : (s : List ℕ) → run s 0 (length s) ≡ s
 run-all s = run-part s 0 (length s) (omega arith) ∙ take-length s
+
+-- so a list of sixteen bytes has no others
+pub sixteen-all : (l : List ℕ) → length l ≡ 16 → sixteen l ≡ l
+sixteen-all l h = ap (run l 0) (sym h) ∙ run-all l
 
 -- the run of the bytes x between others
 pub run-between : (a x b : List ℕ) → run (a ++ (x ++ b)) (length a) (length x) ≡ x

@@ -1,13 +1,12 @@
 -- Where the text of a label ends, and what its bytes are before, at and after that. Assumes nothing.
-use Rattle.std.specs.Prelude.{ℕ, ◌+◌, ◌-◌, ◌≤◌, ◌<◌, Bool, true, false, ◌&&◌, List, ◌⊎◌, ◌≡◌, refl, eqb, leb, length}
+use Rattle.std.specs.Prelude.{ℕ, ◌+◌, ◌-◌, ◌≤◌, ◌<◌, Bool, true, false, ◌&&◌, List, ◌⊎◌, ◌≡◌, refl, eqb, leb, length, Some, None}
 use Rattle.std.proofs.Math.Bool.{not, and-true}
 use Rattle.std.proofs.Common.{inl, inr, sym, subst, ◌∙◌, arith}
 use Rattle.std.proofs.Math.Path.{ap}
 use borrow.Author.Tests.{leb-true, not-false, not-true}
 use Rattle.chain.specs.Chain.{ahead}
 use Rattle.chain.specs.First.{or_else, when, search}
-use Rattle.chain.specs.declared.Found.{Found}
-use Rattle.chain.specs.declared.Found.TheVariants.{At, Nothing}
+use Rattle.chain.specs.Found.{Found}
 use Rattle.chain.proofs.laws.Below.{below}
 use Rattle.chain.proofs.laws.Loops.{one-grows, search-end, search-more}
 use Rattle.chain.proofs.laws.Ranges.{Least, range-least, range-none, least-range, none-range}
@@ -35,40 +34,40 @@ module _ (s : List ℕ) (p : ℕ) where
   label-byte i h = byte-run s p 16 i h
 
   -- the text does not end exactly where all sixteen bytes are characters
-  pub text-full : text_end s p ≡ Nothing → (i : ℕ) → i < 16 → is_label_text (byte s (p + i)) ≡ true
+  pub text-full : text_end s p ≡ None → (i : ℕ) → i < 16 → is_label_text (byte s (p + i)) ≡ true
   unfolding text_end
   text-full e i h = not-false _ (range-none (no_text s p) (λ j. j) 16 0 e i (omega arith) h)
 
-  pub full-text : ((i : ℕ) → i < 16 → is_label_text (byte s (p + i)) ≡ true) → text_end s p ≡ Nothing
+  pub full-text : ((i : ℕ) → i < 16 → is_label_text (byte s (p + i)) ≡ true) → text_end s p ≡ None
   unfolding text_end
   full-text f = none-range (no_text s p) (λ j. j) 16 0 (λ i h k. ap not (f i k))
 
   -- it ends at i exactly where the bytes before i are characters, and the one at i is none
-  ends : (i : ℕ) → text_end s p ≡ At i → Least (no_text s p) (λ j. j) 0 16 i
+  ends : (i : ℕ) → text_end s p ≡ Some i → Least (no_text s p) (λ j. j) 0 16 i
   unfolding text_end
   ends i e = range-least (no_text s p) (λ j. j) 16 0 i e
 
-  pub text-fits : (i : ℕ) → text_end s p ≡ At i → i < 16
+  pub text-fits : (i : ℕ) → text_end s p ≡ Some i → i < 16
   text-fits i e = let l : Least (no_text s p) (λ j. j) 0 16 i = ends i e in omega (arith, l.to, l.stands)
 
-  pub text-before : (i : ℕ) → text_end s p ≡ At i → (j : ℕ) → j < i → is_label_text (byte s (p + j)) ≡ true
+  pub text-before : (i : ℕ) → text_end s p ≡ Some i → (j : ℕ) → j < i → is_label_text (byte s (p + j)) ≡ true
   text-before i e j h =
       let l : Least (no_text s p) (λ j. j) 0 16 i = ends i e in
       not-false _ (l.before j (omega arith) (omega (arith, l.stands)))
 
-  pub text-stops : (i : ℕ) → text_end s p ≡ At i → is_label_text (byte s (p + i)) ≡ false
+  pub text-stops : (i : ℕ) → text_end s p ≡ Some i → is_label_text (byte s (p + i)) ≡ false
   text-stops i e =
       let l : Least (no_text s p) (λ j. j) 0 16 i = ends i e in
       not-true _ (subst (λ (j : ℕ). no_text s p j ≡ true) l.stands l.passes)
 
-  pub stops-text : (i : ℕ) → i < 16 → ((j : ℕ) → j < i → is_label_text (byte s (p + j)) ≡ true) → is_label_text (byte s (p + i)) ≡ false → text_end s p ≡ At i
+  pub stops-text : (i : ℕ) → i < 16 → ((j : ℕ) → j < i → is_label_text (byte s (p + j)) ≡ true) → is_label_text (byte s (p + i)) ≡ false → text_end s p ≡ Some i
   unfolding text_end
   stops-text i h f e =
       least-range (no_text s p) (λ j. j) 16 0 i
       (record { number = i; from = omega arith; to = h; passes = ap not e; stands = refl; before = λ j _ k. ap not (f j k) })
 
   -- it ends no further than the label's start and the end of the image
-  pub text-within : (i m : ℕ) → text_end s p ≡ At i → p < m → length s < m → p + i < m
+  pub text-within : (i m : ℕ) → text_end s p ≡ Some i → p < m → length s < m → p + i < m
   text-within i m e h k = go (below 0 i)
     where
       go : (0 < i) ⊎ (i ≤ 0) → p + i < m

@@ -1,14 +1,13 @@
 -- The bad byte is the first that no good label with the same beginning has. The idea: text, '$' and zero are told apart by one byte, so the bytes
 -- before the bad one fix how many characters a label with that beginning has. Assumes nothing.
-use Rattle.std.specs.Prelude.{ℕ, ◌+◌, ◌≤◌, ◌<◌, Bool, true, false, not, cond, List, ◌⊎◌, ◌≡◌, T, eqb, ltb}
+use Rattle.std.specs.Prelude.{ℕ, ◌+◌, ◌≤◌, ◌<◌, Bool, true, false, not, cond, List, ◌⊎◌, ◌≡◌, T, eqb, ltb, Some, None}
 use Rattle.std.proofs.Common.{inl, inr, sym, ap, subst, ◌∙◌, arith, eq-eqb, ne_eqb, eqb-true, lt-ltb, le-ltb}
 use Rattle.std.proofs.Math.Path.{refl}
 use Rattle.std.proofs.lemmas.Bool.{eqb-false, not-false, not-true}
 use Rattle.chain.specs.Fill.{tab}
 use Rattle.chain.specs.Finds.{Finds}
 use Rattle.chain.specs.First.{or_else, when}
-use Rattle.chain.specs.declared.Found.{Found}
-use Rattle.chain.specs.declared.Found.TheVariants.{At, Nothing}
+use Rattle.chain.specs.Found.{Found}
 use Rattle.chain.proofs.laws.Below.{below}
 use Rattle.chain.proofs.laws.Clauses.{Clause}
 use Rattle.chain.proofs.laws.Fill.{length-tab, get_or-tab}
@@ -27,7 +26,7 @@ clash b t f = subst T (sym t ∙ f) tt
 
 module _ (s : List ℕ) (p : ℕ) where
   -- the bad byte is at offset m: the text ends at i, not after m
-  module _ (i m : ℕ) (end : text_end s p ≡ At i) (order : i ≤ m) (within : m < 16) where
+  module _ (i m : ℕ) (end : text_end s p ≡ Some i) (order : i ≤ m) (within : m < 16) where
     -- a good label with the bytes before m
     completed : ℕ → ℕ
     completed j = cond (ltb j m) (byte s (p + j)) (cond (eqb j i) dollar 0)
@@ -90,11 +89,11 @@ module _ (s : List ℕ) (p : ℕ) where
         }
 
   -- the rule's place is that of the bad byte
-  pub bad-byte : (q : ℕ) → bad_label s p ≡ At q → BadAt s p q
+  pub bad-byte : (q : ℕ) → bad_label s p ≡ Some q → BadAt s p q
   unfolding bad_label
   bad-byte q = go (text_end s p) refl
     where
-      no-mark : (i : ℕ) → text_end s p ≡ At i → (byte s (p + i) ≡ dollar → ⊥) → BadAt s p (p + i)
+      no-mark : (i : ℕ) → text_end s p ≡ Some i → (byte s (p + i) ≡ dollar → ⊥) → BadAt s p (p + i)
       no-mark i d n =
           let w : i < 16 = text-fits s p i d in
           record {
@@ -105,7 +104,7 @@ module _ (s : List ℕ) (p : ℕ) where
                 (λ l e same. n (sym (same i (omega arith) ∙ label-byte s p i w) ∙ e.mark));
           }
 
-      not-zero : (i : ℕ) → text_end s p ≡ At i → byte s (p + i) ≡ dollar → Least (is_set s p) (λ j. p + j) (i + 1) 16 q → BadAt s p q
+      not-zero : (i : ℕ) → text_end s p ≡ Some i → byte s (p + i) ≡ dollar → Least (is_set s p) (λ j. p + j) (i + 1) 16 q → BadAt s p q
       not-zero i d k l =
           record {
             offset = l.number;
@@ -118,13 +117,13 @@ module _ (s : List ℕ) (p : ℕ) where
                 (sym (same l.number (omega arith) ∙ label-byte s p l.number l.to) ∙ e.zeros l.number (omega (arith, l.from)) l.to));
           }
 
-      at-end : (i : ℕ) → text_end s p ≡ At i → (b : Bool) → eqb (byte s (p + i)) dollar ≡ b → or_else (when (not b) (p + i)) (nonzero s p (i + 1) 16) ≡ At q → BadAt s p q
+      at-end : (i : ℕ) → text_end s p ≡ Some i → (b : Bool) → eqb (byte s (p + i)) dollar ≡ b → or_else (when (not b) (p + i)) (nonzero s p (i + 1) 16) ≡ Some q → BadAt s p q
       at-end i d true t e = not-zero i d (eqb-true _ _ t) (nonzero-least s p (i + 1) 16 q e)
       at-end i d false t e = let z : p + i ≡ q = cc in subst (BadAt s p) z (no-mark i d (eqb-false _ _ t))
 
-      go : (f : Found) → text_end s p ≡ f → after_text s p f ≡ At q → BadAt s p q
-      go (At i) d e = at-end i d (eqb (byte s (p + i)) dollar) refl e
-      go Nothing d e = absurd (at-nothing (sym e))
+      go : (f : Found) → text_end s p ≡ f → after_text s p f ≡ Some q → BadAt s p q
+      go (Some i) d e = at-end i d (eqb (byte s (p + i)) dollar) refl e
+      go None d e = absurd (at-nothing (sym e))
 
   -- a label has one bad byte at most, and a good one has none: so the rule finds it
   one-bad : (i j : ℕ) → BadByte (label s p) i → BadByte (label s p) j → i ≤ j
@@ -135,10 +134,10 @@ module _ (s : List ℕ) (p : ℕ) where
   finds-label = go (bad_label s p) refl
     where
       go : (f : Found) → bad_label s p ≡ f → Finds (BadAt s p) f
-      go (At q) e =
+      go (Some q) e =
           let h : BadAt s p q = bad-byte q e in
           (h, λ z b. omega (arith, one-bad h.offset b.offset h.bad b.bad, h.stands, b.stands))
-      go Nothing e = λ z b. b.bad.none (label s p) (good-label s p e) (λ j h. refl)
+      go None e = λ z b. b.bad.none (label s p) (good-label s p e) (λ j h. refl)
 
 -- a label as a clause of a rule
 abbrev pub of_label : List ℕ → ℕ → Clause

@@ -1,13 +1,12 @@
 -- Nothing is bad exactly in good labels: the rule looks at each byte that the paper's sentence speaks of, and at no other. Assumes nothing.
-use Rattle.std.specs.Prelude.{ℕ, ◌+◌, ◌<◌, Bool, not, List, ◌⊎◌, ◌≡◌, eqb}
+use Rattle.std.specs.Prelude.{ℕ, ◌+◌, ◌<◌, Bool, not, List, ◌⊎◌, ◌≡◌, eqb, Some, None}
 use Rattle.std.proofs.Math.Bool.{true}
 use Rattle.std.proofs.Math.Logic.{inl, inr}
 use Rattle.std.proofs.Math.Path.{refl, ap}
 use Rattle.std.proofs.Common.{sym, ap₂, ◌∙◌, arith, eq-eqb, eqb-true}
 use Rattle.std.proofs.lemmas.Bool.{not-false}
 use Rattle.chain.specs.First.{or_else, when}
-use Rattle.chain.specs.declared.Found.{Found}
-use Rattle.chain.specs.declared.Found.TheVariants.{At, Nothing}
+use Rattle.chain.specs.Found.{Found}
 use Rattle.chain.proofs.laws.First.{or_else-left, or_else-right, when-nothing}
 use Rattle.octets.specs.Bytes.{byte}
 use Rattle.octets.specs.Label.{is_label_text, dollar, text_end, after_text, bad_label, Ended, GoodLabel, label}
@@ -24,7 +23,7 @@ module _ (s : List ℕ) (p : ℕ) where
   abbrev rest : ℕ → Found
   rest i = nonzero s p (i + 1) 16
 
-  ended : (i : ℕ) → text_end s p ≡ At i → or_else (mark i) (rest i) ≡ Nothing → Ended (label s p) i
+  ended : (i : ℕ) → text_end s p ≡ Some i → or_else (mark i) (rest i) ≡ None → Ended (label s p) i
   ended i d e =
       let w : i < 16 = text-fits s p i d in
       record {
@@ -33,19 +32,19 @@ module _ (s : List ℕ) (p : ℕ) where
         zeros = λ j h k. label-byte s p j k ∙ nonzero-none s p (i + 1) 16 (or_else-right (mark i) (rest i) e) j (omega arith) k;
       }
 
-  pub good-label : bad_label s p ≡ Nothing → GoodLabel (label s p)
+  pub good-label : bad_label s p ≡ None → GoodLabel (label s p)
   unfolding bad_label
   good-label = go (text_end s p) refl
     where
-      go : (f : Found) → text_end s p ≡ f → after_text s p f ≡ Nothing → GoodLabel (label s p)
-      go (At i) d e =
+      go : (f : Found) → text_end s p ≡ f → after_text s p f ≡ None → GoodLabel (label s p)
+      go (Some i) d e =
           record {
             sixteen = length-run s p 16;
             text = i;
             characters = λ j h. ap is_label_text (label-byte s p j (omega (arith, text-fits s p i d))) ∙ text-before s p i d j h;
             ends = inr (ended i d e);
           }
-      go Nothing d e =
+      go None d e =
           record {
             sixteen = length-run s p 16;
             text = 16;
@@ -53,14 +52,14 @@ module _ (s : List ℕ) (p : ℕ) where
             ends = inl refl;
           }
 
-  pub label-good : GoodLabel (label s p) → bad_label s p ≡ Nothing
+  pub label-good : GoodLabel (label s p) → bad_label s p ≡ None
   unfolding bad_label
   label-good g = go g.ends
     where
       characters : (j : ℕ) → j < 16 → j < g.text → is_label_text (byte s (p + j)) ≡ true
       characters j h k = ap is_label_text (sym (label-byte s p j h)) ∙ g.characters j k
 
-      go : (g.text ≡ 16) ⊎ Ended (label s p) g.text → after_text s p (text_end s p) ≡ Nothing
+      go : (g.text ≡ 16) ⊎ Ended (label s p) g.text → after_text s p (text_end s p) ≡ None
       go (inl e) = ap (after_text s p) (full-text s p (λ j h. characters j h (omega (arith, e))))
       go (inr e) =
           let i = g.text in

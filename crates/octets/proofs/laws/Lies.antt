@@ -10,7 +10,6 @@ use Rattle.chain.specs.Fill.{tab}
 use Rattle.chain.proofs.laws.Below.{below}
 use Rattle.chain.proofs.laws.Fill.{tab-agree}
 use Rattle.octets.specs.Bytes.{byte, run, little, le16, le32, le64}
-use Rattle.octets.specs.Runs.{sixteen, sixteen_at}
 use Rattle.octets.proofs.laws.Bytes.{run-all}
 
 -- block h lies in s from place p on
@@ -60,7 +59,3 @@ module _ (s : List ℕ) (p : ℕ) (h : List ℕ) (lies : Lies s p h) (o : ℕ) w
   pub le64-in : o + 8 ≤ length h → le64 s (p + o) ≡ le64 h o
   unfolding le64
   le64-in k = ap little (run-in 8 k)
-
-  pub sixteen-in : o + 16 ≤ length h → sixteen_at s (p + o) ≡ sixteen_at h o
-  unfolding sixteen_at
-  sixteen-in k = ap sixteen (run-in 16 k)

@@ -7,8 +7,6 @@ use Rattle.octets.proofs.laws.Pieces.{flat-more}
 use Rattle.chain.specs.Fill.{tab}
 use Rattle.chain.proofs.laws.Below.{below}
 use Rattle.octets.specs.Bytes.{byte, Octets, spelled}
-use Rattle.octets.specs.Runs.{sixteen_bytes}
-use Rattle.octets.specs.declared.Sixteen.{Sixteen}
 use Rattle.octets.proofs.laws.Bytes.{all-octets}
 
 -- two lists of bytes
@@ -54,27 +52,3 @@ pub octets-fields : (l : List Field) → Octets (flatten (map (λ f. f.bytes) l)
 unfolding flatten
 octets-fields [] = λ p. omega arith
 octets-fields (f ∷ fs) = octets-append f.bytes (flatten (map (λ f. f.bytes) fs)) f.good (octets-fields fs)
-
--- ---- sixteen bytes, each below its bound
-pub record Sixteenth (x : Sixteen) : Type 0 where
-  pub b0 : x.b0 < 256
-  pub b1 : x.b1 < 256
-  pub b2 : x.b2 < 256
-  pub b3 : x.b3 < 256
-  pub b4 : x.b4 < 256
-  pub b5 : x.b5 < 256
-  pub b6 : x.b6 < 256
-  pub b7 : x.b7 < 256
-  pub b8 : x.b8 < 256
-  pub b9 : x.b9 < 256
-  pub b10 : x.b10 < 256
-  pub b11 : x.b11 < 256
-  pub b12 : x.b12 < 256
-  pub b13 : x.b13 < 256
-  pub b14 : x.b14 < 256
-  pub b15 : x.b15 < 256
-
-pub sixteen-octets : (x : Sixteen) → Sixteenth x → Octets (sixteen_bytes x)
-sixteen-octets x h =
-    all-octets (sixteen_bytes x)
-    (h.b0, (h.b1, (h.b2, (h.b3, (h.b4, (h.b5, (h.b6, (h.b7, (h.b8, (h.b9, (h.b10, (h.b11, (h.b12, (h.b13, (h.b14, (h.b15, tt))))))))))))))))

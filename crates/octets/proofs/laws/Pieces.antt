@@ -1,10 +1,9 @@
 -- Pieces of one size d, end to end: how many bytes they have, the places where they start, and a run cut into such pieces. Assumes nothing.
-use Rattle.std.specs.Prelude.{ℕ, zero, suc, ◌+◌, ◌*◌, ◌<◌, ◌≡◌, refl, length, get_or}
+use Rattle.std.specs.Prelude.{ℕ, zero, suc, ◌+◌, ◌*◌, ◌<◌, ◌≡◌, refl, length, get_or, Some}
 use mathlib.Core.List.{List, [], ◌∷◌, ◌++◌, map, flatten, append-nil, map-append}
 use Rattle.std.proofs.Common.{sym, ap, ◌∙◌, zero-mul, arith, length-append, ext_get_or}
 use Rattle.chain.specs.Chain.{chain, ahead}
 use Rattle.chain.specs.Fill.{tab}
-use Rattle.chain.specs.declared.Found.TheVariants.{At}
 use Rattle.chain.proofs.laws.Fill.{length-tab, get_or-tab}
 use Rattle.chain.proofs.laws.Nth.{nth-below}
 use Rattle.chain.proofs.laws.Steps.{steps-count, steps-nth}
@@ -47,6 +46,6 @@ steps-tab d pos n p end e =
     let long : length l ≡ n = steps-count d pos n p end e in
     ext_get_or 0 l (tab (λ k. p + k * d) n) (long ∙ sym (length-tab (λ k. p + k * d) n))
     (λ k h.
-    let at : At (get_or l k 0) ≡ At (p + k * d) = sym (nth-below l k h) ∙ steps-nth d pos n p end k e (omega arith) in
+    let at : Some (get_or l k 0) ≡ Some (p + k * d) = sym (nth-below l k h) ∙ steps-nth d pos n p end k e (omega arith) in
     let same : get_or l k 0 ≡ p + k * d = cc in
     same ∙ sym (get_or-tab (λ i. p + i * d) n k 0 (omega arith)))

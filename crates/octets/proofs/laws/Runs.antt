@@ -1,32 +1,32 @@
--- Sixteen bytes as a list, what a comparison of two runs tells, and a search for a byte that is not zero. Assumes nothing.
-use Rattle.std.specs.Prelude.{ℕ, ◌+◌, ◌-◌, ◌≤◌, ◌<◌, true, ◌&&◌, ◌↔◌, ◌≡◌, refl, eqb}
+-- What a comparison of two runs tells, and a search for a byte that is not zero. Assumes nothing.
+use Rattle.std.specs.Prelude.{ℕ, ◌+◌, ◌-◌, ◌≤◌, ◌<◌, true, ◌&&◌, ◌↔◌, ◌≡◌, refl, eqb, is_some, Some, None, Bool, false}
 use Rattle.std.proofs.Math.Bool.{not}
 use mathlib.Core.List.{List, ◌++◌}
 use Rattle.std.proofs.Common.{inl, inr, ap₂, ◌∙◌, arith}
 use Rattle.std.proofs.Math.Path.{sym, ap}
 use borrow.Author.Tests.{eq-eqb, eqb-true, not-false}
-use Rattle.chain.specs.Fill.{tab}
 use Rattle.chain.specs.Finds.{Finds}
-use Rattle.chain.specs.declared.Found.{Found}
-use Rattle.chain.specs.declared.Found.TheVariants.{At, Nothing}
+use Rattle.chain.specs.Found.{Found}
 use Rattle.chain.proofs.laws.Below.{below}
 use Rattle.chain.proofs.laws.Fill.{tab-agree}
 use Rattle.chain.proofs.laws.Finds.{finds-as, finds-range}
 use Rattle.chain.proofs.laws.Means.{Means, means-same, means-equal, means-other, means-both}
 use Rattle.chain.proofs.laws.Ranges.{Least, range-least, range-none, none-range}
 use Rattle.octets.specs.Bytes.{byte, Octets, run, little, le64}
-use Rattle.octets.specs.Runs.{sixteen_at, sixteen_bytes, apart, difference, is_nothing, same_run, is_set, nonzero}
+use Rattle.octets.specs.Runs.{apart, difference, is_nothing, same_run, is_set, nonzero}
 use Rattle.octets.proofs.laws.Bytes.{length-run, byte-run, run-octets, run-append, le64-zero}
 use Rattle.octets.proofs.laws.Spelled.{little-injective}
 
--- the list of the sixteen bytes at a place
-pub bytes-sixteen : (s : List ℕ) (p : ℕ) → sixteen_bytes (sixteen_at s p) ≡ run s p 16
-unfolding sixteen_at tab
-bytes-sixteen s p = refl
+-- the library's test that something was found, and the opposite one
+pub nothing-where-not-some : (f : Found) (b : Bool) → is_some f ≡ not b → b ≡ is_nothing f
+nothing-where-not-some (Some i) true e = cc
+nothing-where-not-some (Some i) false e = refl
+nothing-where-not-some None true e = refl
+nothing-where-not-some None false e = cc
 
-pub is-nothing : (f : Found) → is_nothing f ≡ true → f ≡ Nothing
-is-nothing (At i) e = cc
-is-nothing Nothing e = refl
+pub is-nothing : (f : Found) → is_nothing f ≡ true → f ≡ None
+is-nothing (Some i) e = cc
+is-nothing None e = refl
 
 module _ (a : List ℕ) (p : ℕ) (b : List ℕ) (q n : ℕ) where
   -- two runs are the same exactly where no offset differs
@@ -80,7 +80,7 @@ module _ (a : List ℕ) (p : ℕ) (b : List ℕ) (q : ℕ) (good : Octets a) (fi
       both = means-both (means-equal (le64 a p) (le64 b q)) (means-equal (le64 a (p + 8)) (le64 b (q + 8)))
 
 module _ (s : List ℕ) (p from to : ℕ) where
-  pub nonzero-least : (q : ℕ) → nonzero s p from to ≡ At q → Least (is_set s p) (λ i. p + i) from to q
+  pub nonzero-least : (q : ℕ) → nonzero s p from to ≡ Some q → Least (is_set s p) (λ i. p + i) from to q
   unfolding nonzero
   nonzero-least q e = range-least (is_set s p) (λ i. p + i) to from q e
 
@@ -99,16 +99,16 @@ module _ (s : List ℕ) (p from to : ℕ) where
       (z - p, (omega (arith, h.0), omega (arith, h.1, h.0), i, (means-other (byte s (p + (z - p))) 0).1 (λ e. h.2 (ap (byte s) i ∙ e)))))
       (nonzero s p from to) (finds-range (is_set s p) (λ i. p + i) (λ i j h. omega arith) from to)
 
-  pub nonzero-none : nonzero s p from to ≡ Nothing → (i : ℕ) → from ≤ i → i < to → byte s (p + i) ≡ 0
+  pub nonzero-none : nonzero s p from to ≡ None → (i : ℕ) → from ≤ i → i < to → byte s (p + i) ≡ 0
   unfolding nonzero
   nonzero-none e i h k = eqb-true _ _ (not-false _ (range-none (is_set s p) (λ j. p + j) to from e i h k))
 
-  pub none-nonzero : ((i : ℕ) → from ≤ i → i < to → byte s (p + i) ≡ 0) → nonzero s p from to ≡ Nothing
+  pub none-nonzero : ((i : ℕ) → from ≤ i → i < to → byte s (p + i) ≡ 0) → nonzero s p from to ≡ None
   unfolding nonzero
   none-nonzero f = none-range (is_set s p) (λ j. p + j) to from (λ i h k. ap not (eq-eqb _ _ (f i h k)))
 
   -- eight to sixteen bytes are zero where the first eight and the last eight are
-  pub none-by-ends : from + 8 ≤ to → to ≤ from + 16 → le64 s (p + from) ≡ 0 → le64 s (p + to - 8) ≡ 0 → nonzero s p from to ≡ Nothing
+  pub none-by-ends : from + 8 ≤ to → to ≤ from + 16 → le64 s (p + from) ≡ 0 → le64 s (p + to - 8) ≡ 0 → nonzero s p from to ≡ None
   none-by-ends h k a b =
       none-nonzero
       (λ i l m.

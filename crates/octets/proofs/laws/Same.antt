@@ -1,19 +1,18 @@
 -- Two images that agree on the places from a up to b: what is read there is the same. Assumes nothing.
-use Rattle.std.specs.Prelude.{ℕ, ◌+◌, ◌≤◌, ◌<◌, Bool, List, ◌≡◌, eqb, length, take}
+use Rattle.std.specs.Prelude.{ℕ, ◌+◌, ◌≤◌, ◌<◌, Bool, List, ◌≡◌, eqb, length, take, Some, None}
 use Rattle.std.proofs.Math.Bool.{not}
 use Rattle.std.proofs.Math.Path.{refl, ap, ap₂}
 use Rattle.std.proofs.Common.{sym, ◌∙◌, arith}
 use Rattle.chain.specs.Chain.{range, ahead}
 use Rattle.chain.specs.First.{first, when, or_else}
-use Rattle.chain.specs.declared.Found.{Found}
-use Rattle.chain.specs.declared.Found.TheVariants.{At, Nothing}
+use Rattle.chain.specs.Found.{Found}
 use Rattle.chain.proofs.laws.Fill.{tab-agree}
 use Rattle.chain.proofs.laws.First.{first-agree}
 use Rattle.chain.proofs.laws.Loops.{one-grows}
 use Rattle.chain.proofs.laws.Places.{chain-all}
 use Rattle.octets.specs.Bytes.{byte, run, little, le16, le32, le64}
 use Rattle.octets.specs.Label.{is_label_text, dollar, text_end, after_text, bad_label}
-use Rattle.octets.specs.Runs.{six, eight, sixteen, six_at, eight_at, sixteen_at, apart, difference, is_nothing, same_run, nonzero}
+use Rattle.octets.specs.Runs.{apart, difference, is_nothing, same_run, nonzero}
 use Rattle.octets.proofs.laws.Bytes.{run-part}
 use Rattle.octets.proofs.laws.Label.{text-fits}
 
@@ -49,18 +48,6 @@ module _ (s t : List ℕ) (a b : ℕ) (same : Same s t a b) (p : ℕ) (start : a
   unfolding le64
   le64-same h = ap little (run-same 8 h)
 
-  pub six-same : p + 6 ≤ b → six_at s p ≡ six_at t p
-  unfolding six_at
-  six-same h = ap six (run-same 6 h)
-
-  pub eight-same : p + 8 ≤ b → eight_at s p ≡ eight_at t p
-  unfolding eight_at
-  eight-same h = ap eight (run-same 8 h)
-
-  pub sixteen-same : p + 16 ≤ b → sixteen_at s p ≡ sixteen_at t p
-  unfolding sixteen_at
-  sixteen-same h = ap sixteen (run-same 16 h)
-
   -- ---- a search by a test of each byte finds the same
   pub search-same : (test : ℕ → Bool) (place : ℕ → ℕ) (from to : ℕ) → p + to ≤ b → first (λ i. when (test (byte s (p + i))) (place i)) (range from to) ≡ first (λ i. when (test (byte t (p + i))) (place i)) (range from to)
   search-same test place from to h =
@@ -87,10 +74,10 @@ module _ (s t : List ℕ) (a b : ℕ) (same : Same s t a b) (p : ℕ) (start : a
   label-same h = go (text_end s p) refl ∙ ap (after_text t p) (text-same h)
     where
       go : (f : Found) → text_end s p ≡ f → after_text s p f ≡ after_text t p f
-      go (At i) e =
+      go (Some i) e =
           ap₂ (λ (x : ℕ) (f : Found). or_else (when (not (eqb x dollar)) (p + i)) f)
           (same (p + i) (omega arith) (omega (arith, text-fits s p i e))) (nonzero-same (i + 1) 16 h)
-      go Nothing e = refl
+      go None e = refl
 
 -- the first n bytes of both, where both have as many
 pub take-same : (s t : List ℕ) (n : ℕ) → Same s t 0 n → n ≤ length s → n ≤ length t → take n s ≡ take n t

@@ -1,27 +1,19 @@
--- `put_at` meets its contract. The loop's invariant: the first i bytes are put, and the rest of the buffer is as it was. Assumes nothing.
-use Rattle.std.proofs.Common.{refl, sym, arith, length-set}
-use Rattle.std.proofs.Math.Seq.{paste-zero}
-use Rattle.octets.proofs.laws.Put.{put-none, put-turn, put-done}
+-- `put_at` meets its contract: where the bytes fit, those before them and those behind them stay; where they do not, nothing changes. Assumes nothing.
+use borrow.Rule.Slice.PartMut.{Post-is}
+use Rattle.std.proofs.Common.{sym, arith, ◌+◌, ◌∙◌, ap₂, List, ℕ, ◌++◌, drop, length, take}
+use mathlib.Core.List.{append_assoc}
+use Rattle.octets.proofs.laws.Put.{put-none, put-fits}
 use Rattle.octets.proofs.put_at.Goals as goal
+use Rattle.octets.proofs.put_at.Goals.{else-at-buffer-via-then-at-buffer+else-bytes-buffer, else-at-buffer-via-else-at-buffer}
 
-pub loop-i-init : goal.loop-i-init
-loop-i-init c = let a = c.args in (paste-zero a.buffer.now a.at a.bytes.now, omega arith, refl)
-
-pub bounds-buffer-at : goal.bounds-buffer-at
-bounds-buffer-at c = omega (arith, c.loop-i.invariant.2)
-
-pub loop-i-preserved : goal.loop-i-preserved
-loop-i-preserved c = let a = c.args in
-    let l = c.loop-i in
-    (put-turn a.bytes.now a.at a.buffer.now (omega arith) l.i _ (omega arith) l.invariant.0, omega arith, simp length-set l.invariant.2)
-
-pub returns-after-loop-i : goal.returns-after-loop-i
-returns-after-loop-i c = let a = c.args in
-    let l = c.loop-i in
-    put-done a.bytes.now a.at a.buffer.now (omega arith) l.i _ (omega (arith, c.loop-i-test.false, l.invariant.1)) l.invariant.0
-
-pub returns-else-bytes-buffer : goal.returns-else-bytes-buffer
-returns-else-bytes-buffer c = sym (put-none _ _ _ (omega arith))
+pub returns-then-bytes-buffer : goal.returns-then-bytes-buffer
+returns-then-bytes-buffer c = let a = c.args in
+    sym (put-fits a.bytes.now a.at a.buffer.now (omega arith) ∙ append_assoc (take a.at a.buffer.now) a.bytes.now (drop (a.at + length a.bytes.now) a.buffer.now)
+    ∙ ap₂ (λ (l m : List ℕ). take a.at a.buffer.now ++ (l ++ m)) (sym c.copy_from_slice.ensures.after) (sym (Post-is a.at (a.at + length a.bytes.now) a.buffer.now (omega arith))))
 
 pub returns-else-at-buffer : goal.returns-else-at-buffer
-returns-else-at-buffer c = sym (put-none _ _ _ (omega arith))
+returns-else-at-buffer c =
+    elim c.else-at-buffer.branch [
+      | else-at-buffer-via-then-at-buffer+else-bytes-buffer w ↦ sym (put-none _ _ _ (omega (arith, w.if-at-buffer.true, w.if-bytes-buffer.false)))
+      | else-at-buffer-via-else-at-buffer w ↦ sym (put-none _ _ _ (omega (arith, w.if-at-buffer.false)))
+    ]

@@ -1,26 +1,24 @@
 -- What two images show of one item, where its head agrees, its data where it is known, and the bytes of the pool: the same fields, and in them the same texts,
 -- as places and as bytes. Assumes nothing.
-use Rattle.std.specs.Prelude.{ℕ, ◌+◌, ◌-◌, ◌≤◌, ◌<◌, ◌≡◌, leb, drop}
+use Rattle.std.specs.Prelude.{ℕ, ◌+◌, ◌-◌, ◌≤◌, ◌<◌, [], ◌∷◌, ◌≡◌, leb, drop, Some, None, Ok, Err}
 use Rattle.std.proofs.Math.Bool.{Bool, true, false, cond}
 use mathlib.Core.List.{List, ◌++◌}
 use Rattle.std.proofs.Math.Path.{refl, ap, ap₂}
 use Rattle.std.proofs.Common.{◌∙◌, arith}
 use Rattle.std.proofs.Math.ListN.{length}
 use Rattle.chain.specs.Nth.{nth}
-use Rattle.chain.specs.declared.Found.{Found}
-use Rattle.chain.specs.declared.Found.TheVariants.{At, Nothing}
+use Rattle.chain.specs.Found.{Found}
 use Rattle.kinds.specs.Kinds.{listed}
 use Rattle.kinds.specs.declared.Kind.TheVariants.{Tag}
 use Rattle.kinds.specs.declared.Kinds.{Kinds}
-use Rattle.octets.specs.Bytes.{byte}
-use Rattle.octets.specs.Runs.{six_at}
-use Rattle.octets.proofs.laws.Same.{Same, le16-same, six-same}
+use Rattle.octets.specs.Bytes.{byte, run}
+use Rattle.octets.proofs.laws.Same.{Same, le16-same, run-same}
 use Rattle.tiny_layout.specs.Layout.{data_at, next}
 use Rattle.tiny_layout.specs.Pool.{is_known, pool_at}
 use Rattle.tiny_layout.specs.Strings.{strings, text_of, reference_at, reference}
 use Rattle.tiny_layout.specs.Tags.{shape_of, field_bytes, index_count}
 use Rattle.tiny_layout.specs.declared.Pool.{Pool}
-use Rattle.tiny_layout.specs.declared.Reference.{Reference}
+use Rattle.tiny_layout.specs.Reference.{Reference}
 use Rattle.tiny_layout.specs.declared.Shape.{Shape}
 use Rattle.tiny_layout.proofs.laws.Same.{tag-same, length-same, data-same, next-same, texts-same, reference-same, text-same}
 use Rattle.tiny_layout.proofs.laws.Tags.{fields-within}
@@ -29,29 +27,28 @@ use Rattle.tiny.specs.Items.{identity_at, batched_at, pool_shown, fields_at, ite
 use Rattle.tiny.specs.Major.{major_text}
 use Rattle.tiny.specs.Values.{text, serial, identity, batched, reference_value, identity_values, field_values, item_values, string_said}
 use Rattle.tiny.specs.declared.Item.{Item}
-use Rattle.tiny.specs.declared.NameAnswer.{NameAnswer}
 use Rattle.tiny.proofs.laws.Strings.{as_string}
 use Rattle.verdict.specs.Said.{says}
 
 -- ---- a reference whose text is the same in both images: so is its value, what a lookup says of it, and the copy of it
 module _ (s t : List ℕ) where
   abbrev pub SameText : Reference → Type 0
-  SameText (Reference.Text span) = text_of s span ≡ text_of t span
-  SameText Reference.Undecodable = Unit {0}
+  SameText (Some span) = text_of s span ≡ text_of t span
+  SameText None = Unit {0}
 
   value-same : (r : Reference) → SameText r → reference_value s r ≡ reference_value t r
-  value-same (Reference.Text span) e = ap text e
-  value-same Reference.Undecodable e = refl
+  value-same (Some span) e = ap text e
+  value-same None e = refl
 
   pub said-same : (r : Reference) → SameText r → string_said s (as_string r) ≡ string_said t (as_string r)
-  said-same (Reference.Text span) e = λ i. says (text (e i))
-  said-same Reference.Undecodable e = refl
+  said-same (Some span) e = λ i. says (text (e i))
+  said-same None e = refl
 
   pub copied-same : (buffer : List ℕ) (r : Reference) → SameText r → copied s buffer r ≡ copied t buffer r
-  copied-same buffer (Reference.Text span) e = λ i.
-      cond (leb span.length (length buffer)) (NameAnswer.Length span.length, e i ++ drop span.length buffer)
-      (NameAnswer.Refused (refused_with 43), buffer)
-  copied-same buffer Reference.Undecodable e = refl
+  copied-same buffer (Some span) e = λ i.
+      cond (leb span.length (length buffer)) (Ok span.length, e i ++ drop span.length buffer)
+      (Err (refused_with 43), buffer)
+  copied-same buffer None e = refl
 
 -- ---- with the strings of a pool whose bytes agree
 module _ (s t : List ℕ) (x : Pool) (pool : Same s t x.from x.to) where
@@ -61,8 +58,8 @@ module _ (s t : List ℕ) (x : Pool) (pool : Same s t x.from x.to) where
   reference-text n = go (nth (strings s x) n) refl
     where
       go : (f : Found) → nth (strings s x) n ≡ f → SameText s t (reference_at s x f)
-      go (At p) e = text-same s t x pool n p e
-      go Nothing e = tt
+      go (Some p) e = text-same s t x pool n p e
+      go None e = tt
 
   -- the string whose number is the byte at q
   pub index-same : (q : ℕ) → byte s q ≡ byte t q → reference s x (byte s q) ≡ reference t x (byte t q)
@@ -82,8 +79,7 @@ module _ (s t : List ℕ) (x : Pool) (pool : Same s t x.from x.to) where
           part = refer (start + 1) (omega arith) (omega arith) i;
           major = same (start + 2) (omega arith) (omega arith) i;
           minor = same (start + 3) (omega arith) (omega arith) i;
-          characters =
-              record { first = same (start + 4) (omega arith) (omega arith) i; second = same (start + 5) (omega arith) (omega arith) i };
+          characters = same (start + 4) (omega arith) (omega arith) i ∷ same (start + 5) (omega arith) (omega arith) i ∷ [];
         }
 
     batched-same : start + 8 ≤ b → batched_at s x start ≡ batched_at t x start
@@ -100,11 +96,11 @@ module _ (s t : List ℕ) (x : Pool) (pool : Same s t x.from x.to) where
     abbrev pub OwnSame : Shape → Type 0
     OwnSame a = Refer (data_at s p) (data_at s p + index_count a) × Same s t (data_at s p + index_count a) (next s p)
 
-    shown-same : Same s t (data_at s p) (next s p) → pool_shown s (pool_at s (At p)) ≡ pool_shown t (pool_at t (At p))
+    shown-same : Same s t (data_at s p) (next s p) → pool_shown s (pool_at s (Some p)) ≡ pool_shown t (pool_at t (Some p))
     unfolding pool_shown
     shown-same own =
         ap (λ (l : List (List ℕ)). record { count = length l; bytes = record { place = data_at s p; length = next s p - data_at s p } })
-        (texts-same s t (pool_at s (At p)) own)
+        (texts-same s t (pool_at s (Some p)) own)
         ∙ ap₂ (λ (a b : ℕ). pool_shown t (record { from = a; to = b })) (data-same s t p head) (next-same s t p head)
 
     -- what is read where the data begin
@@ -122,7 +118,7 @@ module _ (s t : List ℕ) (x : Pool) (pool : Same s t x.from x.to) where
     fields-same Shape.Flags h own =
         ap Item.Flags (whole Shape.Flags refl own (data_at s p) (omega arith) (omega arith)) ∙ moved (λ q. Item.Flags (byte t q))
     fields-same Shape.Address h own =
-        ap Item.Address (six-same s t (data_at s p) (next s p) (whole Shape.Address refl own) (data_at s p) (omega arith) h) ∙ moved (λ q. Item.Address (six_at t q))
+        ap Item.Address (run-same s t (data_at s p) (next s p) (whole Shape.Address refl own) (data_at s p) (omega arith) 6 h) ∙ moved (λ q. Item.Address (run t q 6))
     fields-same Shape.Identity h own =
         ap Item.Identity (identity-same (data_at s p) (next s p) own.0 own.1 h) ∙ moved (λ q. Item.Identity (identity_at t x q))
     fields-same Shape.Batched h own =
@@ -157,7 +153,7 @@ module _ (s t : List ℕ) (x : Pool) (pool : Same s t x.from x.to) where
         major = byte s (start + 2);
         letters = major_text (byte s (start + 2));
         minor = byte s (start + 3);
-        characters = record { first = byte s (start + 4); second = byte s (start + 5) };
+        characters = byte s (start + 4) ∷ byte s (start + 5) ∷ [];
       }
 
   field-values : (a : Shape) (p : ℕ) → field_values s (fields_at s x a p) ≡ field_values t (fields_at s x a p)

@@ -2,7 +2,7 @@
 -- items, strings and name. So two accepted images have the same count and get the same answers. Each byte of a head and of a known item past its indexes is
 -- shown, whatever item it might lie in; and an index that is not shown refers to nothing. Assumes nothing.
 use Prim.Native.Nat.{ℕ, ◌+◌, ◌≤◌, ◌<◌}
-use Rattle.std.specs.Prelude.{Bool, false, cond, ◌&&◌, List, ◌⊎◌, ◌≡◌, refl, eqb, length}
+use Rattle.std.specs.Prelude.{Bool, false, cond, ◌&&◌, List, ◌⊎◌, ◌≡◌, refl, eqb, length, Some, None, Ok}
 use Rattle.std.proofs.Math.Bool.{true}
 use Rattle.std.proofs.lemmas.Bool.{false≢true}
 use Rattle.std.proofs.Common.{inl, inr, subst, ◌∙◌, arith}
@@ -10,8 +10,7 @@ use Rattle.std.proofs.Math.Path.{sym, ap}
 use Rattle.chain.specs.All.{All}
 use Rattle.chain.specs.Keep.{keep, only}
 use Rattle.chain.specs.Nth.{nth}
-use Rattle.chain.specs.declared.Found.{Found}
-use Rattle.chain.specs.declared.Found.TheVariants.{At, Nothing}
+use Rattle.chain.specs.Found.{Found}
 use Rattle.chain.proofs.laws.All.{all-map}
 use Rattle.chain.proofs.laws.Inside.{inside-own}
 use Rattle.chain.proofs.laws.Keep.{keep-agree}
@@ -26,7 +25,7 @@ use Rattle.tiny_layout.specs.Pool.{is_known, pool}
 use Rattle.tiny_layout.specs.Strings.{reference}
 use Rattle.tiny_layout.specs.Tags.{shape_of, index_count}
 use Rattle.tiny_layout.specs.declared.Pool.{Pool}
-use Rattle.tiny_layout.specs.declared.Reference.{Reference}
+use Rattle.tiny_layout.specs.Reference.{Reference}
 use Rattle.tiny_layout.proofs.laws.Layout.{data-after, data-within, next-grows}
 use Rattle.tiny_layout.proofs.laws.Pool.{pool-view, known-holds}
 use Rattle.tiny_layout.proofs.laws.Same.{tag-same, length-same, data-same, next-same, items-agree, pool-agree, reference-same}
@@ -37,26 +36,24 @@ use Rattle.tiny.specs.Answers.{numbered, item_if, item_numbered, string_if, stri
 use Rattle.tiny.specs.Items.{item_at}
 use Rattle.tiny.specs.NotShown.{InsideUnknown, InIndex, NotShown, check, unknown, index}
 use Rattle.tiny.specs.Values.{item_values, item_said, string_said}
-use Rattle.tiny.specs.declared.ItemAnswer.{ItemAnswer}
+use Rattle.tiny.specs.AnswerTypes.{StringAnswer}
 use Rattle.tiny.specs.declared.ShownItem.{ShownItem}
-use Rattle.tiny.specs.declared.StringAnswer.{StringAnswer}
 use Rattle.tiny.proofs.laws.Agree.{SameText, said-same, copied-same, reference-text, index-same, item-same, item-values}
 use Rattle.tiny.proofs.laws.Resolved.{reference-unlisted}
 use Rattle.tiny.proofs.laws.Serials.{only-serial, serial-shown}
 use Rattle.tiny.proofs.laws.Strings.{as_string, string-by-reference}
 use Rattle.verdict.specs.Said.{says}
-use Rattle.verdict.specs.declared.Judged.TheVariants.{Accepted}
 
 -- item i starts at p
 abbrev pub Stands : List ℕ → ℕ → ℕ → Type 0
-Stands s i p = nth (items s) i ≡ At p
+Stands s i p = nth (items s) i ≡ Some p
 
 -- two images of one length that differ in no byte that is shown. "An image's length is L ..; what is lent past it may differ."
 pub record Alike (k : Kinds) (s t : List ℕ) : Type 0 where
   pub length : total s ≡ total t
   pub bytes : (q : ℕ) → q < total s → (byte s q ≡ byte t q) ⊎ NotShown k s q
 
-module _ (k : Kinds) (s t : List ℕ) (c : ℕ) (e : judged k s ≡ Accepted c) (alike : Alike k s t) where
+module _ (k : Kinds) (s t : List ℕ) (c : ℕ) (e : judged k s ≡ Ok c) (alike : Alike k s t) where
   -- ---- the bytes of an item
   -- it ends at the check byte or before it
   fit : (i p : ℕ) → Stands s i p → next s p ≤ check_place s
@@ -160,34 +157,34 @@ module _ (k : Kinds) (s t : List ℕ) (c : ℕ) (e : judged k s ≡ Accepted c) 
   -- ---- the item of a number: the answer, and its values
   -- what goes by the place found at a number is the same, if it is at each place
   by-number :
-      {A : Type 0} (f g : Found → A) → ((i p : ℕ) → Stands s i p → f (At p) ≡ g (At p)) → f Nothing ≡ g Nothing
+      {A : Type 0} (f g : Found → A) → ((i p : ℕ) → Stands s i p → f (Some p) ≡ g (Some p)) → f None ≡ g None
       → (n : ℕ) → f (nth (items s) n) ≡ g (nth (items t) n)
   by-number f g some none n = go (nth (items s) n) refl ∙ ap (λ (l : List ℕ). g (nth l n)) items-alike
     where
       go : (x : Found) → nth (items s) n ≡ x → f x ≡ g x
-      go (At p) d = some n p d
-      go Nothing d = none
+      go (Some p) d = some n p d
+      go None d = none
 
   pub numbered-alike : (n : ℕ) → numbered k s (nth (items s) n) ≡ numbered k t (nth (items t) n)
-  numbered-alike = by-number (numbered k s) (numbered k t) (λ i p at. ap ItemAnswer.Shown (item-alike i p at)) refl
+  numbered-alike = by-number (numbered k s) (numbered k t) (λ i p at. ap Ok (item-alike i p at)) refl
 
   pub said-alike : (n : ℕ) → item_said s (numbered k s (nth (items s) n)) ≡ item_said t (numbered k t (nth (items t) n))
   said-alike = by-number (λ f. item_said s (numbered k s f)) (λ f. item_said t (numbered k t f)) (λ i p at. ap says (values-alike i p at)) refl
 
   -- ---- the string of a number: the answer, and its value
-  pub looked-alike : (n : ℕ) → string_if k s n (Accepted c) ≡ string_if k t n (Accepted c)
+  pub looked-alike : (n : ℕ) → string_if k s n (Ok c) ≡ string_if k t n (Ok c)
   looked-alike n =
       string-by-reference k s n c
-      ∙ ap (λ (r : Reference). cond (listed k (Tag 0x01)) (as_string r) StringAnswer.Undecodable)
+      ∙ ap (λ (r : Reference). cond (listed k (Tag 0x01)) (as_string r) (Ok None))
       (reference-same s t (pool k s) pool-bytes n ∙ ap (λ (x : Pool). reference t x n) pool-alike)
       ∙ sym (string-by-reference k t n c)
 
-  pub string-alike : (n : ℕ) → string_said s (string_if k s n (Accepted c)) ≡ string_said t (string_if k t n (Accepted c))
+  pub string-alike : (n : ℕ) → string_said s (string_if k s n (Ok c)) ≡ string_said t (string_if k t n (Ok c))
   string-alike n =
       ap (string_said s) (string-by-reference k s n c) ∙ go (listed k (Tag 0x01)) ∙ ap (string_said t) (sym (string-by-reference k s n c) ∙ looked-alike n)
     where
       answer : Bool → StringAnswer
-      answer b = cond b (as_string (reference s (pool k s) n)) StringAnswer.Undecodable
+      answer b = cond b (as_string (reference s (pool k s) n)) (Ok None)
 
       go : (b : Bool) → string_said s (answer b) ≡ string_said t (answer b)
       go true = said-same s t (reference s (pool k s) n) (reference-text s t (pool k s) pool-bytes n)
@@ -205,13 +202,13 @@ module _ (k : Kinds) (s t : List ℕ) (c : ℕ) (e : judged k s ≡ Accepted c) 
   name-alike buffer = go (only (serials k s)) refl ∙ ap (λ (l : List ℕ). name_at k t buffer (only l)) serials-alike
     where
       go : (f : Found) → only (serials k s) ≡ f → name_at k s buffer f ≡ name_at k t buffer f
-      go (At p) d =
+      go (Some p) d =
           let h = only-serial k s p (λ q. item_at k s (pool k s) q ≡ item_at k t (pool k t) q)
           (all-of-nth (λ q. item_at k s (pool k s) q ≡ item_at k t (pool k t) q) (items s) item-alike) d in
           copied-same s t buffer (serial_of (item_at k s (pool k s) p).item)
           (subst (SameText s t) (sym (serial-shown k s p (pool k s) h.0 h.1)) (reference-text s t (pool k s) pool-bytes (byte s (data_at s p))))
           ∙ ap (λ (x : ShownItem). copied t buffer (serial_of x.item)) h.2
-      go Nothing d = refl
+      go None d = refl
 
   -- ---- the other image is alike as well: the premise is worded by the first one's items
   pub alike-back : Alike k t s
@@ -249,7 +246,7 @@ module _ (k : Kinds) (s t : List ℕ) (c : ℕ) (e : judged k s ≡ Accepted c) 
       go q (inr (index off u)) = inr (index off (indexed q u))
 
 -- ---- both are accepted: the same count, and the same answer to every question
-module _ (k : Kinds) (s t : List ℕ) (c d : ℕ) (e : judged k s ≡ Accepted c) (f : judged k t ≡ Accepted d) (alike : Alike k s t) where
+module _ (k : Kinds) (s t : List ℕ) (c d : ℕ) (e : judged k s ≡ Ok c) (f : judged k t ≡ Ok d) (alike : Alike k s t) where
   pub count-alike : c ≡ d
   count-alike = sym (accepted-count k s c e) ∙ ap length (items-alike k s t c e alike) ∙ accepted-count k t d f
 

@@ -1,7 +1,7 @@
 -- When each refusal and each unknown item comes, in an accepted image: 42 for a number that is not below the count, and an item for every other; fields
 -- that are not known where the tag is not on the list; no name without an only serial or without 01 on the list; 43 where the text is longer than the
 -- buffer. And of every image: a refused name leaves the lent buffer as it was, and no answer changes its length. Assumes nothing.
-use Rattle.std.specs.Prelude.{ℕ, ◌+◌, ◌≤◌, ◌<◌, Bool, cond, ◌⊎◌, ◌↔◌, ◌≡◌, eqb, get_or}
+use Rattle.std.specs.Prelude.{ℕ, ◌+◌, ◌≤◌, ◌<◌, Bool, cond, ◌⊎◌, ◌↔◌, ◌≡◌, eqb, get_or, Some, None, Ok, Err}
 use Rattle.std.proofs.Math.Bool.{true, false}
 use Rattle.std.proofs.lemmas.Bool.{false≢true}
 use mathlib.Core.List.{List, [], ◌∷◌, ◌++◌}
@@ -14,8 +14,7 @@ use Rattle.chain.specs.All.{All}
 use Rattle.chain.specs.Fill.{filled}
 use Rattle.chain.specs.Keep.{only}
 use Rattle.chain.specs.Nth.{nth}
-use Rattle.chain.specs.declared.Found.{Found}
-use Rattle.chain.specs.declared.Found.TheVariants.{At, Nothing}
+use Rattle.chain.specs.Found.{Found}
 use Rattle.chain.proofs.laws.Below.{below}
 use Rattle.chain.proofs.laws.Fill.{length-filled}
 use Rattle.chain.proofs.laws.Nth.{nth-below, nth-past}
@@ -29,19 +28,18 @@ use Rattle.tiny_layout.specs.Pool.{pool}
 use Rattle.tiny_layout.specs.Strings.{letter, texts, text_of}
 use Rattle.tiny_layout.specs.Tags.{shape_of}
 use Rattle.tiny_layout.specs.declared.Pool.{Pool}
-use Rattle.tiny_layout.specs.declared.Reference.{Reference}
+use Rattle.tiny_layout.specs.Reference.{Reference}
 use Rattle.tiny_rules.specs.Judged.{judged}
 use Rattle.tiny_rules.proofs.laws.Accepted.{accepted-count}
 use Rattle.tiny.specs.Answers.{refused_with, numbered, item_if, item_numbered, serials, serial_of, copied, name_at, name_if, name_of}
 use Rattle.tiny.specs.Items.{fields_at, item_at}
 use Rattle.tiny.specs.Values.{FieldValues, not_known, ItemValues, field_values, item_values, item_said}
 use Rattle.tiny.specs.declared.Item.{Item}
-use Rattle.tiny.specs.declared.NameAnswer.{NameAnswer}
+use Rattle.tiny.specs.AnswerTypes.{NameAnswer}
 use Rattle.tiny.proofs.laws.Resolved.{reference-unlisted, item-view, name-is-text, name-too-long}
 use Rattle.tiny.proofs.laws.Serials.{serial-known, serial-shown}
 use Rattle.verdict.specs.Said.{says, refused}
-use Rattle.verdict.specs.declared.Judged.{Judged}
-use Rattle.verdict.specs.declared.Judged.TheVariants.{Accepted}
+use Rattle.verdict.specs.Answers.{Judged}
 use Rattle.verdict.specs.declared.Refusal.{Refusal}
 
 -- ---- a tag on the list has fields
@@ -72,43 +70,43 @@ listed-filled k s x p tag on =
 
 -- ---- the number of a refusal; a length is none
 abbrev refusal_number : NameAnswer → ℕ
-refusal_number (NameAnswer.Length n) = 0
-refusal_number (NameAnswer.Refused r) = r.number
+refusal_number (Ok n) = 0
+refusal_number (Err r) = r.number
 
-length-unrefused : (n : ℕ) (r : Refusal) → NameAnswer.Length n ≡ NameAnswer.Refused r → ⊥
+length-unrefused : (n : ℕ) (r : Refusal) → Ok n ≡ Err r → ⊥
 length-unrefused n r e = let z : ◌≡◌ {A = ℕ} 0 1 = cc in omega arith
 
 -- ---- of every image: the answers for a name, by whether the call is refused
 module _ (k : Kinds) (s buffer : List ℕ) where
   -- a claim about the answer and the buffer, shown of a refusal with the buffer as it was and of a text that the buffer has room for, holds
   name-view :
-      (P : NameAnswer × List ℕ → Type 0) → ((r : Refusal) → P (NameAnswer.Refused r, buffer))
-      → ((span : Span) → span.length ≤ length buffer → P (NameAnswer.Length span.length, text_of s span ++ drop span.length buffer))
+      (P : NameAnswer × List ℕ → Type 0) → ((r : Refusal) → P (Err r, buffer))
+      → ((span : Span) → span.length ≤ length buffer → P (Ok span.length, text_of s span ++ drop span.length buffer))
       → P (name_of k s buffer)
   unfolding name_of
   name-view P refusal whole = judged_by (judged k s)
     where
       fits : (span : Span) (b : Bool) → leb span.length (length buffer) ≡ b
-          → P (cond b (NameAnswer.Length span.length, text_of s span ++ drop span.length buffer) (NameAnswer.Refused (refused_with 43), buffer))
+          → P (cond b (Ok span.length, text_of s span ++ drop span.length buffer) (Err (refused_with 43), buffer))
       fits span true e = whole span (leb-true span.length (length buffer) e)
       fits span false e = refusal (refused_with 43)
 
       copy : (r : Reference) → P (copied s buffer r)
-      copy (Reference.Text span) = fits span (leb span.length (length buffer)) refl
-      copy Reference.Undecodable = refusal (refused_with 44)
+      copy (Some span) = fits span (leb span.length (length buffer)) refl
+      copy None = refusal (refused_with 44)
 
       found : (f : Found) → P (name_at k s buffer f)
-      found (At p) = copy (serial_of (item_at k s (pool k s) p).item)
-      found Nothing = refusal (refused_with 44)
+      found (Some p) = copy (serial_of (item_at k s (pool k s) p).item)
+      found None = refusal (refused_with 44)
 
       judged_by : (j : Judged) → P (name_if k s buffer j)
-      judged_by (Judged.Accepted c) = found (only (serials k s))
-      judged_by (Judged.Refused r) = refusal r
+      judged_by (Ok c) = found (only (serials k s))
+      judged_by (Err r) = refusal r
 
   -- a refused call changes no byte of the lent buffer
-  pub refused-unchanged : (r : Refusal) → (name_of k s buffer).0 ≡ NameAnswer.Refused r → (name_of k s buffer).1 ≡ buffer
+  pub refused-unchanged : (r : Refusal) → (name_of k s buffer).0 ≡ Err r → (name_of k s buffer).1 ≡ buffer
   refused-unchanged r =
-      name-view (λ a. a.0 ≡ NameAnswer.Refused r → a.1 ≡ buffer) (λ q e. refl) (λ span h e. absurd (length-unrefused span.length r e))
+      name-view (λ a. a.0 ≡ Err r → a.1 ≡ buffer) (λ q e. refl) (λ span h e. absurd (length-unrefused span.length r e))
 
   -- the buffer keeps its length
   pub name-length : length (name_of k s buffer).1 ≡ length buffer
@@ -117,7 +115,7 @@ module _ (k : Kinds) (s buffer : List ℕ) where
       name-view (λ a. length a.1 ≡ length buffer) (λ r. refl)
       (λ span h. length-filled (λ i. letter (byte s (span.place + i))) span.length buffer h)
 
-module _ (k : Kinds) (s : List ℕ) (c : ℕ) (e : judged k s ≡ Accepted c) where
+module _ (k : Kinds) (s : List ℕ) (c : ℕ) (e : judged k s ≡ Ok c) where
   -- ---- item by number
   item-accepted : (n : ℕ) → item_numbered k s n ≡ numbered k s (nth (items s) n)
   unfolding item_numbered
@@ -147,39 +145,39 @@ module _ (k : Kinds) (s : List ℕ) (c : ℕ) (e : judged k s ≡ Accepted c) wh
   -- ---- the name
   module _ (buffer : List ℕ) where
     -- no name exactly where there is no only serial, or 01 is not on the list
-    pub no-name-exactly : ((name_of k s buffer).0 ≡ NameAnswer.Refused (refused_with 44)) ↔ ((only (serials k s) ≡ Nothing) ⊎ (listed k (Tag 0x01) ≡ false))
+    pub no-name-exactly : ((name_of k s buffer).0 ≡ Err (refused_with 44)) ↔ ((only (serials k s) ≡ None) ⊎ (listed k (Tag 0x01) ≡ false))
     unfolding name_of
     no-name-exactly = (to (only (serials k s)) refl (listed k (Tag 0x01)) refl, from)
       where
-        to : (f : Found) → only (serials k s) ≡ f → (b : Bool) → listed k (Tag 0x01) ≡ b → (name_of k s buffer).0 ≡ NameAnswer.Refused (refused_with 44)
-            → (only (serials k s) ≡ Nothing) ⊎ (listed k (Tag 0x01) ≡ false)
-        to Nothing d b l h = inl d
-        to (At p) d false l h = inr l
-        to (At p) d true l h =
+        to : (f : Found) → only (serials k s) ≡ f → (b : Bool) → listed k (Tag 0x01) ≡ b → (name_of k s buffer).0 ≡ Err (refused_with 44)
+            → (only (serials k s) ≡ None) ⊎ (listed k (Tag 0x01) ≡ false)
+        to None d b l h = inl d
+        to (Some p) d false l h = inr l
+        to (Some p) d true l h =
             absurd
             (elim (below (length buffer) (length (get_or (texts s (pool k s)) (byte s (data_at s p)) []))) [
               | inl short ↦ omega (arith, ap refusal_number h, ap (λ (a : NameAnswer × List ℕ). refusal_number a.0) (name-too-long k s c e p d l buffer short))
               | inr room ↦ omega (arith, ap refusal_number h, ap (λ (a : NameAnswer × List ℕ). refusal_number a.0) (name-is-text k s c e p d l buffer room))
             ])
 
-        undecoded : listed k (Tag 0x01) ≡ false → (f : Found) → only (serials k s) ≡ f → (name_at k s buffer f).0 ≡ NameAnswer.Refused (refused_with 44)
-        undecoded off Nothing d = refl
-        undecoded off (At p) d =
+        undecoded : listed k (Tag 0x01) ≡ false → (f : Found) → only (serials k s) ≡ f → (name_at k s buffer f).0 ≡ Err (refused_with 44)
+        undecoded off None d = refl
+        undecoded off (Some p) d =
             let h = serial-known k s p d in
             ap (λ (r : Reference). (copied s buffer r).0)
             (serial-shown k s p (pool k s) h.mark h.own ∙ reference-unlisted k s off (byte s (data_at s p)))
 
-        from : (only (serials k s) ≡ Nothing) ⊎ (listed k (Tag 0x01) ≡ false) → (name_of k s buffer).0 ≡ NameAnswer.Refused (refused_with 44)
+        from : (only (serials k s) ≡ None) ⊎ (listed k (Tag 0x01) ≡ false) → (name_of k s buffer).0 ≡ Err (refused_with 44)
         from (inl none) = ap (λ (j : Judged). (name_if k s buffer j).0) e ∙ ap (λ (f : Found). (name_at k s buffer f).0) none
         from (inr off) = ap (λ (j : Judged). (name_if k s buffer j).0) e ∙ undecoded off (only (serials k s)) refl
 
     -- with 01 on the list, the buffer is too short exactly where the only serial's text is longer
     pub too-short-exactly :
-        (p : ℕ) → only (serials k s) ≡ At p → listed k (Tag 0x01) ≡ true
-        → ((name_of k s buffer).0 ≡ NameAnswer.Refused (refused_with 43)) ↔ (length buffer < length (get_or (texts s (pool k s)) (byte s (data_at s p)) []))
+        (p : ℕ) → only (serials k s) ≡ Some p → listed k (Tag 0x01) ≡ true
+        → ((name_of k s buffer).0 ≡ Err (refused_with 43)) ↔ (length buffer < length (get_or (texts s (pool k s)) (byte s (data_at s p)) []))
     too-short-exactly p one on = (to, λ short. ap (λ (a : NameAnswer × List ℕ). a.0) (name-too-long k s c e p one on buffer short))
       where
-        to : (name_of k s buffer).0 ≡ NameAnswer.Refused (refused_with 43) → length buffer < length (get_or (texts s (pool k s)) (byte s (data_at s p)) [])
+        to : (name_of k s buffer).0 ≡ Err (refused_with 43) → length buffer < length (get_or (texts s (pool k s)) (byte s (data_at s p)) [])
         to h =
             elim (below (length buffer) (length (get_or (texts s (pool k s)) (byte s (data_at s p)) []))) [
               | inl short ↦ short

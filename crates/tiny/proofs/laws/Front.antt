@@ -1,6 +1,6 @@
 -- A reader needs no more than the first 255 bytes of what is lent, for any answer: a refused image gets the same refusal from them, and an accepted one has
 -- its L bytes among them, on which every answer is the same. Assumes nothing.
-use Rattle.std.specs.Prelude.{ℕ, ◌≤◌, List, ◌≡◌, refl, length, take}
+use Rattle.std.specs.Prelude.{ℕ, ◌≤◌, List, ◌≡◌, refl, length, take, Ok, Err}
 use Rattle.std.proofs.Common.{sym, ap, ◌∙◌, arith, length-take, get_or-take}
 use Rattle.kinds.specs.declared.Kinds.{Kinds}
 use Rattle.octets.specs.Bytes.{Octets}
@@ -12,24 +12,24 @@ use Rattle.tiny_rules.proofs.laws.Front.{judged-front}
 use Rattle.tiny.specs.Answers.{item_if, item_numbered, string_if, string_numbered, name_if, name_of}
 use Rattle.tiny.specs.Values.{item_said, string_said}
 use Rattle.tiny.proofs.laws.Same.{item-answer-same, item-same, string-answer-same, string-same, name-same}
-use Rattle.verdict.specs.declared.Judged.{Judged}
+use Rattle.verdict.specs.Answers.{Judged}
 use Rattle.verdict.specs.declared.Refusal.{Refusal}
 
 module _ (k : Kinds) (s : List ℕ) (n : ℕ) (octets : Octets s) (enough : 255 ≤ n) where
   -- an answer that goes by the verdict: the same from the front, where a refusal gives the same and where the L bytes decide
   front :
       {A : Type 0} (f : List ℕ → Judged → A)
-      → ((r : Refusal) → f (take n s) (Judged.Refused r) ≡ f s (Judged.Refused r))
+      → ((r : Refusal) → f (take n s) (Err r) ≡ f s (Err r))
       → (4 ≤ total s → Same s (take n s) 0 (total s) → total s ≤ length s → total s ≤ length (take n s)
       → f s (judged k s) ≡ f (take n s) (judged k (take n s)))
       → f (take n s) (judged k (take n s)) ≡ f s (judged k s)
   front f refused whole = go (judged k s) refl
     where
       go : (j : Judged) → judged k s ≡ j → f (take n s) (judged k (take n s)) ≡ f s (judged k s)
-      go (Judged.Accepted c) e =
+      go (Ok c) e =
           let w = total-within k s c e in
           sym (whole w.0 (λ q _ h. sym (get_or-take n s q 0 (omega (arith, octets 2)))) w.1 (simp length-take (omega (arith, octets 2, w.1))))
-      go (Judged.Refused r) e =
+      go (Err r) e =
           ap (f (take n s)) (judged-front k s n octets enough ∙ e) ∙ refused r ∙ ap (f s) (sym e)
 
   -- the item of a number: the answer, and its values

@@ -1,9 +1,8 @@
 -- The item at a place is the first of the part of the image that begins there: it has as many data bytes, and as a pool the same texts. Assumes nothing.
-use Rattle.std.specs.Prelude.{ℕ, ◌-◌, ◌/◌, List, ◌≡◌, drop}
+use Rattle.std.specs.Prelude.{ℕ, ◌-◌, ◌/◌, List, ◌≡◌, drop, Some}
 use Rattle.std.proofs.Math.Bool.{cond}
 use Rattle.std.proofs.Common.{sym, ap₂, ◌∙◌, zero-add, arith, get_or-drop}
 use Rattle.std.proofs.Math.Path.{ap}
-use Rattle.chain.specs.declared.Found.TheVariants.{At}
 use Rattle.octets.specs.Bytes.{byte, run}
 use Rattle.octets.proofs.laws.Parts.{run-drop}
 use Rattle.tiny_layout.specs.Layout.{is_long, head_size, data_length, data_at, next}
@@ -15,7 +14,7 @@ pub data-length : (s : List ℕ) (p : ℕ) → next s p - data_at s p ≡ data_l
 unfolding next
 data-length s p = omega arith
 
-texts-data : (s : List ℕ) (p : ℕ) → texts s (pool_at s (At p)) ≡ split (run s (data_at s p) (data_length s p))
+texts-data : (s : List ℕ) (p : ℕ) → texts s (pool_at s (Some p)) ≡ split (run s (data_at s p) (data_length s p))
 unfolding texts
 texts-data s p = ap (λ (n : ℕ). split (run s (data_at s p) n)) (data-length s p)
 
@@ -34,7 +33,7 @@ module _ (s : List ℕ) (p : ℕ) where
       ∙ ap (λ (b : ℕ). cond (is_long (byte s p)) b (byte s p / 16)) (get_or-drop p s 1 0)
 
   -- so the texts are the same
-  pub texts-part : texts (drop p s) (pool_at (drop p s) (At 0)) ≡ texts s (pool_at s (At p))
+  pub texts-part : texts (drop p s) (pool_at (drop p s) (Some 0)) ≡ texts s (pool_at s (Some p))
   texts-part =
       texts-data (drop p s) 0
       ∙ ap split (ap₂ (run (drop p s)) head-part length-part ∙ run-drop s p (head_size (byte s p)) (data_length s p))

@@ -2,7 +2,7 @@
 -- item is the text whose number its index byte holds (rule 10: there is one), a lookup gives the text or 42, and the name is the text of the only
 -- serial, or 43 where the buffer has no room for it; where 01 is not on the list, every reference and every string looked up is undecodable.
 -- Assumes nothing.
-use Rattle.std.specs.Prelude.{ℕ, ◌+◌, ◌≤◌, ◌<◌, Bool, ◌≡◌}
+use Rattle.std.specs.Prelude.{ℕ, ◌+◌, ◌≤◌, ◌<◌, Bool, ◌≡◌, Some, None, Ok, Err}
 use Rattle.std.proofs.Math.Bool.{true, false, cond}
 use mathlib.Core.List.{List, [], ◌++◌}
 use Rattle.std.proofs.Math.Path.{refl, sym, ap, subst}
@@ -14,8 +14,7 @@ use Rattle.chain.specs.All.{All}
 use Rattle.chain.specs.Chain.{visit, chain}
 use Rattle.chain.specs.Keep.{only}
 use Rattle.chain.specs.Nth.{nth}
-use Rattle.chain.specs.declared.Found.{Found}
-use Rattle.chain.specs.declared.Found.TheVariants.{At, Nothing}
+use Rattle.chain.specs.Found.{Found}
 use Rattle.chain.proofs.laws.All.{all-of, all-map, map-get_or}
 use Rattle.chain.proofs.laws.Fill.{length-tab}
 use Rattle.chain.proofs.laws.Nth.{nth-below, nth-past, nth-all}
@@ -29,7 +28,6 @@ use Rattle.tiny_layout.specs.Pool.{pool}
 use Rattle.tiny_layout.specs.Strings.{letter, texts, strings, span_at, text_of, reference_at, reference}
 use Rattle.tiny_layout.specs.Tags.{shape_of, index_count}
 use Rattle.tiny_layout.specs.declared.Pool.{Pool}
-use Rattle.tiny_layout.specs.declared.Reference.{Reference}
 use Rattle.tiny_layout.specs.declared.Shape.{Shape}
 use Rattle.tiny_layout.proofs.laws.Pool.{no-pool}
 use Rattle.tiny_layout.proofs.laws.Texts.{text_at, texts-placed, texts-count}
@@ -40,18 +38,15 @@ use Rattle.tiny.specs.Items.{identity_at, batched_at, fields_at, item_at}
 use Rattle.tiny.specs.Texts.{EachIndexed}
 use Rattle.tiny.specs.Values.{ReferenceValue, text, undecodable, FieldValues, ItemValues, reference_value, field_values, item_values, item_said, string_said}
 use Rattle.tiny.specs.declared.Item.{Item}
-use Rattle.tiny.specs.declared.NameAnswer.{NameAnswer}
-use Rattle.tiny.specs.declared.StringAnswer.{StringAnswer}
 use Rattle.tiny.proofs.laws.Serials.{only-serial, serial-shown}
 use Rattle.tiny.proofs.laws.Strings.{as_string, string-by-reference}
 use Rattle.verdict.specs.Said.{says, refused}
-use Rattle.verdict.specs.declared.Judged.TheVariants.{Accepted}
 
 -- ---- a reference is the text of its number
 -- string n of a pool: a span, whose text is the n-th of the pool's texts
 pub record Resolved (s : List ℕ) (x : Pool) (n : ℕ) : Type 0 where
   pub span : Span
-  pub found : reference s x n ≡ Reference.Text span
+  pub found : reference s x n ≡ Some span
   pub spells : text_of s span ≡ get_or (texts s x) n []
 
 module _ (s : List ℕ) (x : Pool) (n : ℕ) where
@@ -68,7 +63,7 @@ module _ (s : List ℕ) (x : Pool) (n : ℕ) where
       }
 
   -- any other is undecodable
-  pub reference-past : length (texts s x) ≤ n → reference s x n ≡ Reference.Undecodable
+  pub reference-past : length (texts s x) ≤ n → reference s x n ≡ None
   unfolding reference
   reference-past h = ap (reference_at s x) (nth-past (strings s x) n (omega (arith, texts-count s x)))
 
@@ -77,7 +72,7 @@ module _ (s : List ℕ) (x : Pool) (n : ℕ) where
   value-text h = let r = reference-text h in ap (reference_value s) r.found ∙ ap text r.spells
 
 -- without 01 on the list every reference is undecodable
-pub reference-unlisted : (k : Kinds) (s : List ℕ) → listed k (Tag 0x01) ≡ false → (n : ℕ) → reference s (pool k s) n ≡ Reference.Undecodable
+pub reference-unlisted : (k : Kinds) (s : List ℕ) → listed k (Tag 0x01) ≡ false → (n : ℕ) → reference s (pool k s) n ≡ None
 unfolding reference nth chain visit
 reference-unlisted k s off n = ap (λ (x : Pool). reference s x n) (no-pool k s off)
 
@@ -128,7 +123,7 @@ said-value a b e = cc
 refused-unsaid : (n p : ℕ) (a : ItemValues) → refused n p ≡ says a → ⊥
 refused-unsaid n p a e = let z : ◌≡◌ {A = ℕ} 0 1 = cc in omega arith
 
-module _ (k : Kinds) (s : List ℕ) (c : ℕ) (e : judged k s ≡ Accepted c) where
+module _ (k : Kinds) (s : List ℕ) (c : ℕ) (e : judged k s ≡ Ok c) where
   -- the indexes of a known item at p are below the string count
   abbrev IndexesBelow : ℕ → Type 0
   IndexesBelow p =
@@ -142,14 +137,14 @@ module _ (k : Kinds) (s : List ℕ) (c : ℕ) (e : judged k s ≡ Accepted c) wh
 
   -- a claim about values, shown of the item at the place of number n, holds of what is said of number n
   pub item-view :
-      (P : ItemValues → Type 0) (n : ℕ) → ((p : ℕ) → nth (items s) n ≡ At p → P (item_values s (item_at k s (pool k s) p)))
+      (P : ItemValues → Type 0) (n : ℕ) → ((p : ℕ) → nth (items s) n ≡ Some p → P (item_values s (item_at k s (pool k s) p)))
       → (v : ItemValues) → item_said s (item_numbered k s n) ≡ says v → P v
   unfolding item_numbered
   item-view P n h v said = go (nth (items s) n) refl (ap (λ j. item_said s (item_if k s n j)) (sym e) ∙ said)
     where
       go : (f : Found) → nth (items s) n ≡ f → item_said s (numbered k s f) ≡ says v → P v
-      go (At p) d t = subst P (said-value (item_values s (item_at k s (pool k s) p)) v t) (h p d)
-      go Nothing d t = absurd (refused-unsaid 42 0 v t)
+      go (Some p) d t = subst P (said-value (item_values s (item_at k s (pool k s) p)) v t) (h p d)
+      go None d t = absurd (refused-unsaid 42 0 v t)
 
   -- what holds of the references of each known item holds of those of each item that is shown
   item-each :
@@ -159,7 +154,7 @@ module _ (k : Kinds) (s : List ℕ) (c : ℕ) (e : judged k s ≡ Accepted c) wh
   item-each P all n =
       item-view (λ w. EachIndexed (P w.place) w.fields) n (λ p d. shown p (listed k (Tag (byte s p))) refl d)
     where
-      shown : (p : ℕ) (b : Bool) → listed k (Tag (byte s p)) ≡ b → nth (items s) n ≡ At p
+      shown : (p : ℕ) (b : Bool) → listed k (Tag (byte s p)) ≡ b → nth (items s) n ≡ Some p
           → EachIndexed (P p) (field_values s (cond b (fields_at s (pool k s) (shape_of (byte s p)) p) Item.NotKnown))
       shown p true l d =
           fields-each s (pool k s) (P p) p (shape_of (byte s p))
@@ -190,11 +185,11 @@ module _ (k : Kinds) (s : List ℕ) (c : ℕ) (e : judged k s ≡ Accepted c) wh
       (λ p l i h. ap (reference_value s) (reference-unlisted k s off (byte s (data_at s p + i)))) (items s))
 
   -- ---- string by number
-  string-accepted : (b : Bool) → listed k (Tag 0x01) ≡ b → (n : ℕ) → string_numbered k s n ≡ cond b (as_string (reference s (pool k s) n)) StringAnswer.Undecodable
+  string-accepted : (b : Bool) → listed k (Tag 0x01) ≡ b → (n : ℕ) → string_numbered k s n ≡ cond b (as_string (reference s (pool k s) n)) (Ok None)
   unfolding string_numbered
   string-accepted b l n =
       ap (string_if k s n) e ∙ string-by-reference k s n c
-      ∙ ap (λ (t : Bool). cond t (as_string (reference s (pool k s) n)) StringAnswer.Undecodable) l
+      ∙ ap (λ (t : Bool). cond t (as_string (reference s (pool k s) n)) (Ok None)) l
 
   -- with 01 on the list: the n-th text of the pool, or 42 where it has none of that number
   pub string-text : listed k (Tag 0x01) ≡ true → (n : ℕ) → n < length (texts s (pool k s)) → string_said s (string_numbered k s n) ≡ says (text (get_or (texts s (pool k s)) n []))
@@ -210,7 +205,7 @@ module _ (k : Kinds) (s : List ℕ) (c : ℕ) (e : judged k s ≡ Accepted c) wh
   string-unlisted off n = ap (string_said s) (string-accepted false off n)
 
   -- ---- the name, of the only serial
-  module _ (p : ℕ) (one : only (serials k s) ≡ At p) where
+  module _ (p : ℕ) (one : only (serials k s) ≡ Some p) where
     -- the string that it shows is in the pool
     serial-text : listed k (Tag 0x01) ≡ true → (serial_of (item_at k s (pool k s) p).item ≡ reference s (pool k s) (byte s (data_at s p))) × (byte s (data_at s p) < length (texts s (pool k s)))
     unfolding shape_of
@@ -227,7 +222,7 @@ module _ (k : Kinds) (s : List ℕ) (c : ℕ) (e : judged k s ≡ Accepted c) wh
         listed k (Tag 0x01) ≡ true → (buffer : List ℕ) (b : Bool)
         → let name : List ℕ = get_or (texts s (pool k s)) (byte s (data_at s p)) [] in
         leb (length name) (length buffer) ≡ b
-        → name_of k s buffer ≡ cond b (NameAnswer.Length (length name), name ++ drop (length name) buffer) (NameAnswer.Refused (refused_with 43), buffer)
+        → name_of k s buffer ≡ cond b (Ok (length name), name ++ drop (length name) buffer) (Err (refused_with 43), buffer)
     unfolding name_of
     name-by-room on buffer b room =
         let found = serial-text on in
@@ -235,17 +230,17 @@ module _ (k : Kinds) (s : List ℕ) (c : ℕ) (e : judged k s ≡ Accepted c) wh
         let long : r.span.length ≡ length (get_or (texts s (pool k s)) (byte s (data_at s p)) []) =
         sym (length-tab (λ i. letter (byte s (r.span.place + i))) r.span.length) ∙ ap length r.spells in
         ap (name_if k s buffer) e ∙ ap (name_at k s buffer) one ∙ ap (copied s buffer) (found.0 ∙ r.found)
-        ∙ λ i. cond ((ap (λ (n : ℕ). leb n (length buffer)) long ∙ room) i) (NameAnswer.Length (long i), r.spells i ++ drop (long i) buffer) (NameAnswer.Refused (refused_with 43), buffer)
+        ∙ λ i. cond ((ap (λ (n : ℕ). leb n (length buffer)) long ∙ room) i) (Ok (long i), r.spells i ++ drop (long i) buffer) (Err (refused_with 43), buffer)
 
     -- enough room: its length, and the text at the front of the buffer
     pub name-is-text :
         listed k (Tag 0x01) ≡ true → (buffer : List ℕ)
         → let name : List ℕ = get_or (texts s (pool k s)) (byte s (data_at s p)) [] in
-        length name ≤ length buffer → name_of k s buffer ≡ (NameAnswer.Length (length name), name ++ drop (length name) buffer)
+        length name ≤ length buffer → name_of k s buffer ≡ (Ok (length name), name ++ drop (length name) buffer)
     name-is-text on buffer room = name-by-room on buffer true (le-leb _ (length buffer) room)
 
     -- not enough: 43, and the buffer as it was
     pub name-too-long :
         listed k (Tag 0x01) ≡ true → (buffer : List ℕ)
-        → length buffer < length (get_or (texts s (pool k s)) (byte s (data_at s p)) []) → name_of k s buffer ≡ (NameAnswer.Refused (refused_with 43), buffer)
+        → length buffer < length (get_or (texts s (pool k s)) (byte s (data_at s p)) []) → name_of k s buffer ≡ (Err (refused_with 43), buffer)
     name-too-long on buffer short = name-by-room on buffer false (lt-leb _ (length buffer) short)

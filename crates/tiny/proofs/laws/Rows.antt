@@ -7,7 +7,6 @@ use Rattle.chain.specs.Fill.{tab}
 use Rattle.kinds.specs.declared.Kinds.{Kinds}
 use Rattle.octets.specs.Bytes.{byte, le16}
 use Rattle.octets.specs.Rows.{Value, part, shown_rows}
-use Rattle.octets.specs.Runs.{six_at}
 use Rattle.tiny_layout.specs.Layout.{data_at, data_length, next}
 use Rattle.tiny_layout.specs.Pool.{is_known, pool}
 use Rattle.tiny_layout.specs.Strings.{reference}
@@ -25,7 +24,7 @@ use Rattle.tiny.proofs.laws.Shown.{reference-shown}
 fields-rows : (s : List ℕ) (x : Pool) (p : ℕ) (a : Shape)
     → labelled (field_values s (fields_at s x a p))
     ≡ shown_rows (λ n. string_value (reference_value s (reference s x n))) s (data_at s p) (data_length s p) (table a)
-unfolding identity_at batched_at pool_shown six_at le16 tab next
+unfolding identity_at batched_at pool_shown le16 tab next
 fields-rows s x p Shape.Pool = ap₂ (λ (a b : ℕ). ("pool", part a b) ∷ []) (omega arith) (omega arith)
 fields-rows s x p Shape.Serial = simp unary_clauses refl
 fields-rows s x p Shape.Flags = simp unary_clauses refl

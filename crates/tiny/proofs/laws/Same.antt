@@ -1,7 +1,7 @@
 -- Bytes lent past L are ignored by every answer: two images that agree on the first one's L bytes, both lent whole, get the same item, the same string
 -- and the same name, as answers (places of texts) and as values (the texts). The judge gives both one answer; and images that agree everywhere are alike for
 -- any list. Assumes nothing.
-use Rattle.std.specs.Prelude.{ℕ, ◌≤◌, List, ◌≡◌, refl, length}
+use Rattle.std.specs.Prelude.{ℕ, ◌≤◌, List, ◌≡◌, refl, length, Ok, Err}
 use Rattle.std.proofs.Common.{inl, arith}
 use Rattle.kinds.specs.declared.Kinds.{Kinds}
 use Rattle.octets.proofs.laws.Same.{Same}
@@ -12,7 +12,7 @@ use Rattle.tiny_rules.proofs.laws.Same.{judged-same}
 use Rattle.tiny.specs.Answers.{item_if, item_numbered, string_if, string_numbered, name_if, name_of}
 use Rattle.tiny.specs.Values.{item_said, string_said}
 use Rattle.tiny.proofs.laws.Alike.{Alike, numbered-alike, said-alike, looked-alike, string-alike, name-alike}
-use Rattle.verdict.specs.declared.Judged.{Judged}
+use Rattle.verdict.specs.Answers.{Judged}
 use Rattle.verdict.specs.declared.Refusal.{Refusal}
 use Rattle.verdict.proofs.laws.Agree.{verdict-agree}
 
@@ -24,8 +24,8 @@ module _ (s t : List ℕ) (long : 4 ≤ total s) (same : Same s t 0 (total s)) w
     -- answers that go by the verdict: they agree where they agree in an accepted image and at a refusal
     verdict-same :
         {A : Type 0} (f g : Judged → A)
-        → ((c : ℕ) → judged k s ≡ Judged.Accepted c → f (Judged.Accepted c) ≡ g (Judged.Accepted c))
-        → ((r : Refusal) → f (Judged.Refused r) ≡ g (Judged.Refused r)) → f (judged k s) ≡ g (judged k t)
+        → ((c : ℕ) → judged k s ≡ Ok c → f (Ok c) ≡ g (Ok c))
+        → ((r : Refusal) → f (Err r) ≡ g (Err r)) → f (judged k s) ≡ g (judged k t)
     verdict-same f g = verdict-agree f g (judged k s) (judged k t) (judged-same s t long same whole other k)
 
     -- the item of a number: the answer, and its values

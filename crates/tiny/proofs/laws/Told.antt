@@ -2,7 +2,7 @@
 -- items not known, and the index bytes of known ones (`complete-tiny`). Where references show their places too (request R-7) and 01 is on the list, index bytes are told
 -- as well (`complete-listed`); so with no item not known the first L bytes are equal (`one-listing`, request R-14). Assumes nothing.
 use Prim.Native.Nat.{ℕ, zero, suc, ◌+◌, ◌-◌, ◌/◌, ◌≤◌, ◌<◌}
-use Rattle.std.specs.Prelude.{Bool, ◌&&◌, List, [], ◌⊎◌, ◌≡◌, get_or}
+use Rattle.std.specs.Prelude.{Bool, ◌&&◌, List, [], ◌⊎◌, ◌≡◌, get_or, Some, None, Ok}
 use Rattle.std.proofs.Math.Bool.{true, false, cond}
 use Rattle.std.proofs.lemmas.Bool.{false≢true}
 use Rattle.std.proofs.Common.{inl, inr, ◌∙◌, arith, ext_get_or}
@@ -12,8 +12,7 @@ use Rattle.std.proofs.Math.ListN.{length}
 use Rattle.chain.specs.All.{All}
 use Rattle.chain.specs.First.{first}
 use Rattle.chain.specs.Nth.{nth}
-use Rattle.chain.specs.declared.Found.{Found}
-use Rattle.chain.specs.declared.Found.TheVariants.{At, Nothing}
+use Rattle.chain.specs.Found.{Found}
 use Rattle.chain.proofs.laws.Apart.{Apart, chain-apart}
 use Rattle.chain.proofs.laws.Below.{below}
 use Rattle.chain.proofs.laws.First.{first-all, when-nothing}
@@ -51,10 +50,9 @@ use Rattle.tiny_layout.proofs.laws.Tags.{shape-view, fields-exact}
 use Rattle.tiny_rules.specs.Judged.{judged}
 use Rattle.tiny_rules.proofs.laws.Accepted.{head-accepted, total-within, items-fit, pool-last, pool-ends}
 use Rattle.tiny_layout.proofs.laws.Split.{Closed, split-injective}
-use Rattle.verdict.specs.declared.Judged.TheVariants.{Accepted}
 
 -- ---- one image: the listed pool is the item of tag 01
-module _ (k : Kinds) (s : List ℕ) (c : ℕ) (e : judged k s ≡ Accepted c) (i p : ℕ) (at : nth (items s) i ≡ At p) (on : listed k (Tag 0x01) ≡ true) (tag : byte s p ≡ 0x01) where
+module _ (k : Kinds) (s : List ℕ) (c : ℕ) (e : judged k s ≡ Ok c) (i p : ℕ) (at : nth (items s) i ≡ Some p) (on : listed k (Tag 0x01) ≡ true) (tag : byte s p ≡ 0x01) where
   ends : next s p ≡ check_place s
   ends = nth-all (λ q. listed k (Tag 0x01) ≡ true → byte s q ≡ 0x01 → next s q ≡ check_place s) (items s) i p (pool-last k s c e) at on tag
 
@@ -74,7 +72,7 @@ module _ (k : Kinds) (s : List ℕ) (c : ℕ) (e : judged k s ≡ Accepted c) (i
           ))
 
       go : (f : Found) → first (known_of k s 0x01) (items s) ≡ f → pool_at s f ≡ record { from = data_at s p; to = next s p }
-      go (At q) d =
+      go (Some q) d =
           let w = known-holds k s 0x01 q Near near d in
           let o : next s q ≡ check_place s = w.2.0 w.0 w.1 in
           let z : q ≡ p = elim w.2.1.1 [
@@ -82,20 +80,20 @@ module _ (k : Kinds) (s : List ℕ) (c : ℕ) (e : judged k s ≡ Accepted c) (i
             | inr (inl x) ↦ absurd (omega (arith, x, ends, w.2.1.0))
             | inr (inr x) ↦ absurd (omega (arith, x, o, (item-within s i p at).1))
           ] in
-          ap (λ (x : ℕ). pool_at s (At x)) z
-      go Nothing d =
-          let w : known_of k s 0x01 p ≡ Nothing = nth-all (λ x. known_of k s 0x01 x ≡ Nothing) (items s) i p (first-all (known_of k s 0x01) (items s) d) at in
+          ap (λ (x : ℕ). pool_at s (Some x)) z
+      go None d =
+          let w : known_of k s 0x01 p ≡ None = nth-all (λ x. known_of k s 0x01 x ≡ None) (items s) i p (first-all (known_of k s 0x01) (items s) d) at in
           absurd (false≢true (sym (when-nothing (is_of k s 0x01 p) p w) ∙ ap₂ (λ (x y : Bool). x && y) on (eq-eqb (byte s p) 0x01 tag)))
 
 -- the last byte of the pool is marked
-closed : (k : Kinds) (s : List ℕ) (c : ℕ) → judged k s ≡ Accepted c → (from to : ℕ) → pool k s ≡ record { from = from; to = to } → Closed (run s from (to - from))
+closed : (k : Kinds) (s : List ℕ) (c : ℕ) → judged k s ≡ Ok c → (from to : ℕ) → pool k s ≡ record { from = from; to = to } → Closed (run s from (to - from))
 closed k s c e from to is j h =
     let n : j + 1 ≡ to - from = h ∙ length-run s from (to - from) in
     ap (λ (x : ℕ). is_marked x) (byte-run s from (to - from) j (omega arith))
     ∙ pool-ends k s c e (from + j) (omega (arith, ap (λ x. x.from) is)) (omega (arith, ap (λ x. x.to) is))
 
 -- ---- two images, item i of both at p
-module _ (k : Kinds) (s t : List ℕ) (good : Octets s) (fine : Octets t) (c d : ℕ) (e : judged k s ≡ Accepted c) (g : judged k t ≡ Accepted d) (i p : ℕ) (at : nth (items s) i ≡ At p) (too : nth (items t) i ≡ At p) (item : item_values s (item_at k s (pool k s) p) ≡ item_values t (item_at k t (pool k t) p)) where
+module _ (k : Kinds) (s t : List ℕ) (good : Octets s) (fine : Octets t) (c d : ℕ) (e : judged k s ≡ Ok c) (g : judged k t ≡ Ok d) (i p : ℕ) (at : nth (items s) i ≡ Some p) (too : nth (items t) i ≡ Some p) (item : item_values s (item_at k s (pool k s) p) ≡ item_values t (item_at k t (pool k t) p)) where
   -- the head: tag, and the length byte of a long tag
   pub tags : byte s p ≡ byte t p
   unfolding item_at
@@ -178,7 +176,7 @@ module _ (k : Kinds) (s t : List ℕ) (good : Octets s) (fine : Octets t) (c d :
       unfolding pool_shown
       counts =
           let w = counted in
-          let z : length (texts s (pool_at s (At p))) ≡ length (texts t (pool_at t (At p))) = cc in
+          let z : length (texts s (pool_at s (Some p))) ≡ length (texts t (pool_at t (Some p))) = cc in
           ap (λ x. length (texts s x)) mine ∙ z
           ∙ sym (ap (λ x. length (texts t x)) (pool-is k t d g i p too listed-pool (sym tags ∙ tag)))
 
@@ -229,14 +227,14 @@ module _ (k : Kinds) (s t : List ℕ) (good : Octets s) (fine : Octets t) (c d :
 
 -- ---- item i of the first stands at p, and so does that of the second, and both show the same
 pub record Both (k : Kinds) (s t : List ℕ) (i p : ℕ) : Type 0 where
-  pub too : nth (items t) i ≡ At p
+  pub too : nth (items t) i ≡ Some p
   pub item : item_values s (item_at k s (pool k s) p) ≡ item_values t (item_at k t (pool k t) p)
 
 -- every item of the first does
 abbrev pub AllBoth : Kinds → List ℕ → List ℕ → Type 0
-AllBoth k s t = (i p : ℕ) → nth (items s) i ≡ At p → Both k s t i p
+AllBoth k s t = (i p : ℕ) → nth (items s) i ≡ Some p → Both k s t i p
 
-module _ (k : Kinds) (s t : List ℕ) (c d : ℕ) (e : judged k s ≡ Accepted c) (g : judged k t ≡ Accepted d) (both : AllBoth k s t) where
+module _ (k : Kinds) (s t : List ℕ) (c d : ℕ) (e : judged k s ≡ Ok c) (g : judged k t ≡ Ok d) (both : AllBoth k s t) where
   -- the last item of the one lies in the other
   reaches : Octets s → Octets t → check_place s ≤ check_place t
   reaches good fine =
@@ -254,7 +252,7 @@ module _ (k : Kinds) (s t : List ℕ) (c d : ℕ) (e : judged k s ≡ Accepted c
         | inr h ↦ omega (arith, (total-within k t d g).0)
       ]
 
-module _ (k : Kinds) (s t : List ℕ) (good : Octets s) (fine : Octets t) (c d : ℕ) (e : judged k s ≡ Accepted c) (g : judged k t ≡ Accepted d) (both : AllBoth k s t) (back : AllBoth k t s) (strings : (n : ℕ) → string_said s (string_numbered k s n) ≡ string_said t (string_numbered k t n)) where
+module _ (k : Kinds) (s t : List ℕ) (good : Octets s) (fine : Octets t) (c d : ℕ) (e : judged k s ≡ Ok c) (g : judged k t ≡ Ok d) (both : AllBoth k s t) (back : AllBoth k t s) (strings : (n : ℕ) → string_said s (string_numbered k s n) ≡ string_said t (string_numbered k t n)) where
   pub totals : total s ≡ total t
   totals =
       omega (
@@ -275,7 +273,7 @@ module _ (k : Kinds) (s t : List ℕ) (good : Octets s) (fine : Octets t) (c d :
         | inr x ↦ go w.number p w.stands o.too o.item w.before x (is_known k s p) refl
       ]
     where
-      go : (i p : ℕ) → nth (items s) i ≡ At p → nth (items t) i ≡ At p → item_values s (item_at k s (pool k s) p) ≡ item_values t (item_at k t (pool k t) p)
+      go : (i p : ℕ) → nth (items s) i ≡ Some p → nth (items t) i ≡ Some p → item_values s (item_at k s (pool k s) p) ≡ item_values t (item_at k t (pool k t) p)
           → q < next s p → data_at s p ≤ q → (b : Bool) → is_known k s p ≡ b → (byte s q ≡ byte t q) ⊎ (NotShown k s q ⊎ InIndex k s q)
       go i p at too item b a true on =
           elim (data-told k s t good fine c d e g i p at too item on strings q a b) [

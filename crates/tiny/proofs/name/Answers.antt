@@ -1,12 +1,12 @@
 -- `name` meets its contract: the verdict, then the name of an accepted image. Assumes nothing.
-use Rattle.std.proofs.Common.{sym, ◌∙◌}
+use Rattle.std.proofs.Common.{rules}
 use Rattle.tiny.specs.Answers.{name_of}
 use Rattle.tiny.proofs.name.Goals as goal
 
-pub returns-in-Refused : goal.returns-in-Refused
+pub returns-in_err-judge : goal.returns-in_err-judge
 unfolding name_of
-returns-in-Refused c = rw (sym c.judge-judgement.ensures ∙ c.in-Refused.is)
+returns-in_err-judge c = search rules
 
-pub returns-in-Accepted : goal.returns-in-Accepted
+pub returns : goal.returns
 unfolding name_of
-returns-in-Accepted c = rw (sym c.judge-judgement.ensures ∙ c.in-Accepted.is) c.name_in.ensures
+returns c = search rules

@@ -1,9 +1,8 @@
 -- The layout's laws: an item has at least one byte and at most 257, and its data lie inside it. Assumes nothing.
-use Rattle.std.specs.Prelude.{ℕ, ◌+◌, ◌/◌, ◌≤◌, ◌<◌, Bool, true, false, cond, List, ◌≡◌, refl}
+use Rattle.std.specs.Prelude.{ℕ, ◌+◌, ◌/◌, ◌≤◌, ◌<◌, Bool, true, false, cond, List, ◌≡◌, refl, Some}
 use Rattle.std.proofs.Common.{sym, ap, add-zero, arith}
 use Rattle.chain.specs.All.{All}
 use Rattle.chain.specs.Nth.{nth}
-use Rattle.chain.specs.declared.Found.TheVariants.{At}
 use Rattle.chain.proofs.laws.Nth.{nth-all}
 use Rattle.chain.proofs.laws.Places.{chain-within}
 use Rattle.octets.specs.Bytes.{byte, Octets}
@@ -60,5 +59,5 @@ length-bound s p octets = go (is_long (byte s p))
 pub items-within : (s : List ℕ) → All (λ p. (3 ≤ p) × (p < check_place s)) (items s)
 items-within s = chain-within (next s) (check_place s) (next-grows s) 3
 
-pub item-within : (s : List ℕ) (n p : ℕ) → nth (items s) n ≡ At p → (3 ≤ p) × (p < check_place s)
+pub item-within : (s : List ℕ) (n p : ℕ) → nth (items s) n ≡ Some p → (3 ≤ p) × (p < check_place s)
 item-within s n p e = nth-all (λ q. (3 ≤ q) × (q < check_place s)) (items s) n p (items-within s) e

@@ -1,14 +1,13 @@
 -- The pool that a reader uses: the data of a listed item of tag 01 between the header and the check byte, or empty at place 0. `pool-view` turns a
 -- claim about the pool into these two cases. Of the list only the mark of 01 matters. Assumes nothing.
-use Rattle.std.specs.Prelude.{ℕ, ◌≤◌, ◌<◌, Bool, true, false, ◌&&◌, List, ◌≡◌, refl, eqb}
+use Rattle.std.specs.Prelude.{ℕ, ◌≤◌, ◌<◌, Bool, true, false, ◌&&◌, List, ◌≡◌, refl, eqb, Some, None}
 use Rattle.std.proofs.Math.Bool.{and-eq-true_iff}
 use Rattle.std.proofs.Math.Path.{ap}
 use Rattle.std.proofs.Common.{subst, ◌∙◌, eqb-true}
 use native.Mathlib.Omega.{arith}
 use Rattle.chain.specs.All.{All}
 use Rattle.chain.specs.First.{first, when}
-use Rattle.chain.specs.declared.Found.{Found}
-use Rattle.chain.specs.declared.Found.TheVariants.{At, Nothing}
+use Rattle.chain.specs.Found.{Found}
 use Rattle.chain.proofs.laws.All.{all-of}
 use Rattle.chain.proofs.laws.First.{Hit, first-hit, first-none, hit-holds, when-test, when-place}
 use Rattle.kinds.specs.Kinds.{listed}
@@ -29,7 +28,7 @@ pub record Known (k : Kinds) (s : List ℕ) (tag p : ℕ) : Type 0 where
 
 module _ (k : Kinds) (s : List ℕ) (tag p : ℕ) where
   -- what a search for a known item finds has this tag, which is on the list; and what holds of each item holds of it
-  pub known-holds : (P : ℕ → Type 0) → All P (items s) → first (known_of k s tag) (items s) ≡ At p → (listed k (Tag tag) ≡ true) × (byte s p ≡ tag) × P p
+  pub known-holds : (P : ℕ → Type 0) → All P (items s) → first (known_of k s tag) (items s) ≡ Some p → (listed k (Tag tag) ≡ true) × (byte s p ≡ tag) × P p
   known-holds P a e =
       let h : Hit (known_of k s tag) (items s) p = first-hit (known_of k s tag) (items s) p e in
       let q = h.item in
@@ -39,7 +38,7 @@ module _ (k : Kinds) (s : List ℕ) (tag p : ℕ) where
       (t.0, eqb-true (byte s q) tag t.1, hit-holds (known_of k s tag) P (items s) p a h)
 
   -- so it is a known item
-  pub known-found : first (known_of k s tag) (items s) ≡ At p → Known k s tag p
+  pub known-found : first (known_of k s tag) (items s) ≡ Some p → Known k s tag p
   known-found e =
       let h = known-holds (λ q. (3 ≤ q) × (q < check_place s)) (items-within s) e in
       record { from = h.2.0; to = h.2.1; mark = h.0; own = h.1 }
@@ -47,14 +46,14 @@ module _ (k : Kinds) (s : List ℕ) (tag p : ℕ) where
 -- a claim about the pool, shown of the empty one and of the data of a listed pool item, holds
 pub pool-view :
     (k : Kinds) (s : List ℕ) (P : Pool → Type 0) → P (record { from = 0; to = 0 })
-    → ((p : ℕ) → first (known_of k s 0x01) (items s) ≡ At p → 3 ≤ p → p < check_place s → listed k (Tag 0x01) ≡ true → byte s p ≡ 1 → P (record { from = data_at s p; to = next s p }))
+    → ((p : ℕ) → first (known_of k s 0x01) (items s) ≡ Some p → 3 ≤ p → p < check_place s → listed k (Tag 0x01) ≡ true → byte s p ≡ 1 → P (record { from = data_at s p; to = next s p }))
     → P (pool k s)
 unfolding pool
 pool-view k s P none some = go (first (known_of k s 0x01) (items s)) refl
   where
     go : (f : Found) → first (known_of k s 0x01) (items s) ≡ f → P (pool_at s f)
-    go (At p) e = let i = known-found k s 0x01 p e in some p e i.from i.to i.mark i.own
-    go Nothing e = none
+    go (Some p) e = let i = known-found k s 0x01 p e in some p e i.from i.to i.mark i.own
+    go None e = none
 
 -- the pool by the mark of 01 on the list
 abbrev pub pool_by : List ℕ → Bool → Pool
@@ -66,7 +65,7 @@ module _ (k : Kinds) (s : List ℕ) where
   unfolding pool
   no-pool e =
       ap (pool_by s) e
-      ∙ ap (pool_at s) (first-none (λ p. Nothing) (items s) (all-of (λ p. Nothing ≡ Nothing) (λ p. refl) (items s)))
+      ∙ ap (pool_at s) (first-none (λ p. None) (items s) (all-of (λ p. None ≡ None) (λ p. refl) (items s)))
 
   -- it ends at its start or further on
   pub pool-order : (pool k s).from ≤ (pool k s).to

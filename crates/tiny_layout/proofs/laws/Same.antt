@@ -1,7 +1,7 @@
 -- Two images where parts of them agree. Where the head of an item does, both have the same item there: tag, data length and end; where the heads along the
 -- items do, both have the same items and the same pool; and where a pool's bytes do, it has the same strings in both. In images that agree on the first
 -- one's L bytes all of these agree: what is lent past them is not read. Assumes nothing.
-use Rattle.std.specs.Prelude.{ℕ, ◌+◌, ◌-◌, ◌/◌, ◌≤◌, ◌<◌, Bool, ◌&&◌, ◌≡◌, eqb}
+use Rattle.std.specs.Prelude.{ℕ, ◌+◌, ◌-◌, ◌/◌, ◌≤◌, ◌<◌, Bool, ◌&&◌, ◌≡◌, eqb, Some, None}
 use Rattle.std.proofs.Math.Bool.{true, false, cond}
 use mathlib.Core.List.{List}
 use Rattle.std.proofs.Math.Path.{refl, ap, ap₂}
@@ -10,8 +10,7 @@ use Rattle.chain.specs.All.{All}
 use Rattle.chain.specs.Chain.{chain, ahead}
 use Rattle.chain.specs.First.{first, when}
 use Rattle.chain.specs.Nth.{nth}
-use Rattle.chain.specs.declared.Found.{Found}
-use Rattle.chain.specs.declared.Found.TheVariants.{At, Nothing}
+use Rattle.chain.specs.Found.{Found}
 use Rattle.chain.proofs.laws.Agree.{chain-agree, search-agree}
 use Rattle.chain.proofs.laws.All.{all-map}
 use Rattle.chain.proofs.laws.Fill.{tab-agree}
@@ -27,7 +26,6 @@ use Rattle.tiny_layout.specs.Layout.{total, check_place, is_long, head_size, dat
 use Rattle.tiny_layout.specs.Pool.{known_of, pool_at, pool}
 use Rattle.tiny_layout.specs.Strings.{is_marked, letter, mark, split, texts, past_mark, string_end, strings, span_at, text_of, reference_at, reference}
 use Rattle.tiny_layout.specs.declared.Pool.{Pool}
-use Rattle.tiny_layout.specs.declared.Reference.TheVariants.{Text}
 use Rattle.tiny_layout.proofs.laws.Layout.{head-bounds, data-after, next-grows, items-within}
 use Rattle.tiny_layout.proofs.laws.Pool.{known-holds}
 use Rattle.tiny_layout.proofs.laws.Strings.{string-grows, string-fits, string-within}
@@ -78,10 +76,10 @@ module _ (s t : List ℕ) (totals : total s ≡ total t) (heads : All (λ p. Sam
   pool-agree k = go (first (known_of k s 0x01) (items s)) refl ∙ ap (pool_at t) (known-agree k 0x01)
     where
       go : (f : Found) → first (known_of k s 0x01) (items s) ≡ f → pool_at s f ≡ pool_at t f
-      go (At p) e =
+      go (Some p) e =
           let head : Same s t p (data_at s p) = (known-holds k s 0x01 p (λ q. Same s t q (data_at s q)) heads e).2 in
           ap₂ (λ (a b : ℕ). record { from = a; to = b }) (data-same s t p head) (next-same s t p head)
-      go Nothing e = refl
+      go None e = refl
 
 -- ---- the strings of a pool whose bytes agree
 module _ (s t : List ℕ) (x : Pool) (same : Same s t x.from x.to) where
@@ -110,10 +108,10 @@ module _ (s t : List ℕ) (x : Pool) (same : Same s t x.from x.to) where
   reference-same n = go (nth (strings s x) n) refl ∙ ap (λ (l : List ℕ). reference_at t x (nth l n)) strings-same
     where
       go : (f : Found) → nth (strings s x) n ≡ f → reference_at s x f ≡ reference_at t x f
-      go (At p) e = ap (λ (q : ℕ). Text (record { place = p; length = q - p })) (string-same p (string-within s x n p e).0)
-      go Nothing e = refl
+      go (Some p) e = ap (λ (q : ℕ). Some (record { place = p; length = q - p })) (string-same p (string-within s x n p e).0)
+      go None e = refl
 
-  pub text-same : (n p : ℕ) → nth (strings s x) n ≡ At p → text_of s (span_at s x.to p) ≡ text_of t (span_at s x.to p)
+  pub text-same : (n p : ℕ) → nth (strings s x) n ≡ Some p → text_of s (span_at s x.to p) ≡ text_of t (span_at s x.to p)
   text-same n p e =
       let w = string-within s x n p e in
       tab-agree (λ i. letter (byte s (p + i))) (λ i. letter (byte t (p + i))) (string_end s x.to p - p)

@@ -1,5 +1,5 @@
 -- Where strings end: past their start, within their pool, and at the first marked byte. Assumes nothing.
-use Rattle.std.specs.Prelude.{ℕ, ◌+◌, ◌≤◌, ◌<◌, true, false, List, ◌≡◌}
+use Rattle.std.specs.Prelude.{ℕ, ◌+◌, ◌≤◌, ◌<◌, true, false, List, ◌≡◌, Some, None}
 use Rattle.std.proofs.Math.Path.{refl, ap}
 use Rattle.std.proofs.Common.{◌∙◌}
 use native.Mathlib.Omega.{arith}
@@ -7,8 +7,7 @@ use Rattle.chain.specs.All.{All}
 use Rattle.chain.specs.Chain.{ahead, range}
 use Rattle.chain.specs.First.{first, when, or_else}
 use Rattle.chain.specs.Nth.{nth}
-use Rattle.chain.specs.declared.Found.{Found}
-use Rattle.chain.specs.declared.Found.TheVariants.{At, Nothing}
+use Rattle.chain.specs.Found.{Found}
 use Rattle.chain.proofs.laws.Loops.{one-grows, search-end, search-more}
 use Rattle.chain.proofs.laws.Nth.{nth-all}
 use Rattle.chain.proofs.laws.Places.{chain-within}
@@ -19,7 +18,7 @@ use Rattle.tiny_layout.specs.declared.Pool.{Pool}
 
 module _ (s : List ℕ) (to : ℕ) where
   -- what is found lies from p up to the pool's end
-  found : (p q : ℕ) → first (mark s) (range p to) ≡ At q → (p ≤ q) × (q < to)
+  found : (p q : ℕ) → first (mark s) (range p to) ≡ Some q → (p ≤ q) × (q < to)
   found p q e =
       let l : Least (λ i. is_marked (byte s i)) (λ i. i) p to q = range-least (λ i. is_marked (byte s i)) (λ i. i) to p q e in
       (omega (arith, l.from, l.stands), omega (arith, l.to, l.stands))
@@ -29,8 +28,8 @@ module _ (s : List ℕ) (to : ℕ) where
   string-grows p = go (first (mark s) (range p to)) refl
     where
       go : (f : Found) → first (mark s) (range p to) ≡ f → p < past_mark to p f
-      go (At q) e = omega (arith, (found p q e).0)
-      go Nothing e = omega arith
+      go (Some q) e = omega (arith, (found p q e).0)
+      go None e = omega arith
 
   -- a string that starts before the pool's end ends within the pool
   pub string-fits : (p : ℕ) → p < to → string_end s to p ≤ to
@@ -38,8 +37,8 @@ module _ (s : List ℕ) (to : ℕ) where
   string-fits p h = go (first (mark s) (range p to)) refl
     where
       go : (f : Found) → first (mark s) (range p to) ≡ f → past_mark to p f ≤ to
-      go (At q) e = omega (arith, (found p q e).1)
-      go Nothing e = omega arith
+      go (Some q) e = omega (arith, (found p q e).1)
+      go None e = omega arith
 
   -- a marked byte ends its string
   pub string-ends : (p : ℕ) → p < to → is_marked (byte s p) ≡ true → string_end s to p ≡ p + 1
@@ -55,8 +54,8 @@ module _ (s : List ℕ) (to : ℕ) where
       ∙ go (first (mark s) (range (p + 1) to))
     where
       go : (f : Found) → past_mark to p f ≡ past_mark to (p + 1) f
-      go (At q) = refl
-      go Nothing = omega arith
+      go (Some q) = refl
+      go None = omega arith
 
   -- and ends it where none is
   pub string-cut : (p : ℕ) → p + 1 ≡ to → string_end s to p ≡ p + 1
@@ -71,5 +70,5 @@ module _ (s : List ℕ) (to : ℕ) where
 pub strings-within : (s : List ℕ) (pool : Pool) → All (λ p. (pool.from ≤ p) × (p < pool.to)) (strings s pool)
 strings-within s pool = chain-within (string_end s pool.to) pool.to (string-grows s pool.to) pool.from
 
-pub string-within : (s : List ℕ) (pool : Pool) (n p : ℕ) → nth (strings s pool) n ≡ At p → (pool.from ≤ p) × (p < pool.to)
+pub string-within : (s : List ℕ) (pool : Pool) (n p : ℕ) → nth (strings s pool) n ≡ Some p → (pool.from ≤ p) × (p < pool.to)
 string-within s pool n p e = nth-all (λ q. (pool.from ≤ q) × (q < pool.to)) (strings s pool) n p (strings-within s pool) e

@@ -1,10 +1,14 @@
--- `next_place` meets its contract: the size of an item, or the end of a string. Assumes nothing.
+-- `next_place` meets its contract: past the item's head and data. Assumes nothing.
+use Rattle.std.proofs.Common.{rules, arith}
+use Rattle.octets.specs.Bytes.{byte}
 use Rattle.tiny_layout.specs.Layout.{next}
+use Rattle.tiny_layout.proofs.laws.Layout.{head-bounds, length-bound}
 use Rattle.tiny_layout.proofs.next_place.Goals as goal
 
-pub returns-in-Items : goal.returns-in-Items
-unfolding next
-returns-in-Items c = rw c.in-Items.is (rw c.item_size.ensures)
+pub overflow_add-result : goal.overflow_add-result
+overflow_add-result c = let a = c.args in
+    omega (arith, c.item_size.ensures, (head-bounds (byte a.image.now a.at)).1, length-bound a.image.now a.at (λ p. omega (arith, c.type_inv.image p)))
 
-pub returns-in-Strings : goal.returns-in-Strings
-returns-in-Strings c = rw c.in-Strings.is c.string_end.ensures
+pub returns : goal.returns
+unfolding next
+returns c = search rules

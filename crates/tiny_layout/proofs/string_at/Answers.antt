@@ -7,9 +7,6 @@ use Rattle.tiny_layout.proofs.string_at.Goals as goal
 pub overflow_sub-result : goal.overflow_sub-result
 overflow_sub-result c = let a = c.args in omega (arith, c.string_end.ensures, string-grows a.image.now a.to a.at)
 
-pub returns-then-at-to : goal.returns-then-at-to
-returns-then-at-to c = rw c.string_end.ensures
-
 pub returns : goal.returns
 returns c = let a = c.args in
     let e : 1 ≡ string_end a.image.now a.to a.at - a.at = omega (arith, string-past a.image.now a.to a.at c.if-at-to.false) in

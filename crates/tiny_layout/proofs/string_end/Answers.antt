@@ -1,13 +1,9 @@
 -- `string_end` meets its contract. The loop's invariant: the first marked byte from `at` on is the first of all. Assumes nothing.
 use Rattle.std.proofs.lemmas.Bool.{lt-leb}
-use Rattle.std.proofs.Common.{◌≡◌, refl, ◌∙◌, ap, arith, le-leb}
-use Rattle.chain.specs.declared.Found.TheVariants.{Nothing}
+use Rattle.std.proofs.Common.{◌≡◌, refl, ◌∙◌, ap, arith, le-leb, None}
 use Rattle.chain.proofs.laws.Loops.{one-grows, turn, hit, done}
 use Rattle.tiny_layout.specs.Strings.{past_mark, string_end}
 use Rattle.tiny_layout.proofs.string_end.Goals as goal
-
-pub loop-at-init : goal.loop-at-init
-loop-at-init c = refl
 
 pub returns-then-byte_at-ge128 : goal.returns-then-byte_at-ge128
 unfolding string_end
@@ -20,5 +16,5 @@ loop-at-preserved c = turn _ _ _ one-grows _ _ c.loop-at-test.true (rw (lt-leb _
 pub returns : goal.returns
 unfolding string_end
 returns c = let a = c.args in
-    let e : a.to ≡ past_mark a.to a.from Nothing = omega (arith, c.requires) in
+    let e : a.to ≡ past_mark a.to a.from None = omega (arith, c.requires) in
     e ∙ ap (past_mark a.to a.from) (done _ _ _ one-grows _ c.loop-at-test.false c.loop-at.invariant)

@@ -1,32 +1,25 @@
 -- `judge` meets its contract: at each return, what the rules up to it found. Assumes nothing.
-use Rattle.std.proofs.Common.{arith, lt-ltb, le-ltb, ne_eqb, eq-eqb}
+use Rattle.std.proofs.Common.{rules}
 use Rattle.tiny_rules.specs.Judged.{judged}
 use Rattle.tiny_rules.specs.Rules.{rule1, rule2, rule3, rule4}
 use Rattle.tiny_rules.proofs.judge.Goals as goal
 
-pub returns-then-image-lt4 : goal.returns-then-image-lt4
-unfolding judged rule1
-returns-then-image-lt4 c = simp (lt-ltb _ _ c.if-image-lt4.true, c.refused.ensures)
-
-pub returns-then-image-ne86 : goal.returns-then-image-ne86
-unfolding judged rule1 rule2
-returns-then-image-ne86 c = simp (le-ltb _ _ c.if-image-lt4.false, ne_eqb _ _ c.if-image-ne86.true, c.refused-then-image-ne86.ensures)
-
-pub returns-then-image-ne2 : goal.returns-then-image-ne2
-unfolding judged rule1 rule2 rule3
-returns-then-image-ne2 c = simp (le-ltb _ _ c.if-image-lt4.false, eq-eqb _ _ c.if-image-ne86.false, ne_eqb _ _ c.if-image-ne2.true, c.refused-then-image-ne2.ensures)
-
-pub returns-then-length-lt4 : goal.returns-then-length-lt4
+pub returns-in_err-keeps : goal.returns-in_err-keeps
 unfolding judged rule1 rule2 rule3 rule4
-returns-then-length-lt4 c = simp (le-ltb _ _ c.if-image-lt4.false, eq-eqb _ _ c.if-image-ne86.false, eq-eqb _ _ c.if-image-ne2.false, lt-ltb _ _ c.if-length-lt4.true, c.refused-then-length-lt4.ensures)
+returns-in_err-keeps c = search rules
 
-pub overflow_cast-length : goal.overflow_cast-length
-overflow_cast-length c = omega (arith, c.type_inv.image 2)
-
-pub returns-then-image-length : goal.returns-then-image-length
+pub returns-in_err-keeps-2 : goal.returns-in_err-keeps-2
 unfolding judged rule1 rule2 rule3 rule4
-returns-then-image-length c = simp (le-ltb _ _ c.if-image-lt4.false, eq-eqb _ _ c.if-image-ne86.false, eq-eqb _ _ c.if-image-ne2.false, le-ltb _ _ c.if-length-lt4.false, lt-ltb _ _ c.if-image-length.true, c.refused-then-image-length.ensures)
+returns-in_err-keeps-2 c = search rules
+
+pub returns-in_err-keeps-3 : goal.returns-in_err-keeps-3
+unfolding judged rule1 rule2 rule3 rule4
+returns-in_err-keeps-3 c = search rules
+
+pub returns-in_err-keeps-4 : goal.returns-in_err-keeps-4
+unfolding judged rule1 rule2 rule3 rule4
+returns-in_err-keeps-4 c = search rules
 
 pub returns : goal.returns
 unfolding judged rule1 rule2 rule3 rule4
-returns c = simp (le-ltb _ _ c.if-image-lt4.false, eq-eqb _ _ c.if-image-ne86.false, eq-eqb _ _ c.if-image-ne2.false, le-ltb _ _ c.if-length-lt4.false, le-ltb _ _ c.if-image-length.false) c.judge_items.ensures
+returns c = search rules

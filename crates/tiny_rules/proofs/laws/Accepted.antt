@@ -1,7 +1,7 @@
 -- What acceptance gives: no rule of the table is broken, and what the rules say in numbers. A rule along the items gives a fact of each item. Assumes nothing.
 use Prim.Native.Nat.{ℕ, ◌+◌, ◌≤◌, ◌<◌}
 use Rattle.std.proofs.Math.Bool.{true, and-eq-true_iff}
-use Rattle.std.specs.Prelude.{not, ◌&&◌, ◌||◌, List, refl, take}
+use Rattle.std.specs.Prelude.{not, ◌&&◌, ◌||◌, List, refl, take, Some, None, Ok}
 use Rattle.std.proofs.Math.Path.{◌≡◌}
 use native.Mathlib.Omega.{arith}
 use Rattle.std.proofs.Math.Dec.{eqb, ltb, leb}
@@ -9,8 +9,7 @@ use Rattle.std.proofs.Math.ListN.{length}
 use borrow.Author.Tests.{ltb-false, leb-false, eq-eqb, not-false}
 use Rattle.chain.specs.All.{All}
 use Rattle.chain.specs.First.{first}
-use Rattle.chain.specs.declared.Found.{Found}
-use Rattle.chain.specs.declared.Found.TheVariants.{At, Nothing}
+use Rattle.chain.specs.Found.{Found}
 use Rattle.chain.proofs.laws.All.{all-map, all-both}
 use Rattle.chain.proofs.laws.Checks.{neither, second-fails, kept-equal, under-mark}
 use Rattle.chain.proofs.laws.First.{first-all, when-nothing}
@@ -29,25 +28,24 @@ use Rattle.tiny_layout.proofs.laws.Layout.{items-within}
 use Rattle.tiny_layout.proofs.laws.Pool.{known-holds}
 use Rattle.tiny_rules.specs.Judged.{rules, judged}
 use Rattle.tiny_rules.specs.Rules.{no_character, end_unmarked, rule2, rule3, rule4, rule5, passes, rule6, early, rule8, rule9, on_known, bad_index, rule10}
-use Rattle.verdict.specs.declared.Judged.{Judged}
-use Rattle.verdict.specs.declared.Judged.TheVariants.{Accepted}
+use Rattle.verdict.specs.Answers.{Judged}
 use Rattle.verdict.proofs.laws.Accepted.{Clear, clear, after}
 
 -- a rule on the known items that finds nothing is not broken by the data of any known item
 known-clear :
     (k : Kinds) (s : List ℕ) (rule : Shape → ℕ → Found) →
-    first (on_known k s rule) (items s) ≡ Nothing →
-    All (λ p. listed k (Tag (byte s p)) ≡ true → rule (shape_of (byte s p)) (data_at s p) ≡ Nothing) (items s)
+    first (on_known k s rule) (items s) ≡ None →
+    All (λ p. listed k (Tag (byte s p)) ≡ true → rule (shape_of (byte s p)) (data_at s p) ≡ None) (items s)
 known-clear k s rule e =
-    all-map (λ p. on_known k s rule p ≡ Nothing) (λ p. listed k (Tag (byte s p)) ≡ true → rule (shape_of (byte s p)) (data_at s p) ≡ Nothing)
+    all-map (λ p. on_known k s rule p ≡ None) (λ p. listed k (Tag (byte s p)) ≡ true → rule (shape_of (byte s p)) (data_at s p) ≡ None)
     (λ p c h. under-mark (listed k (Tag (byte s p))) (rule (shape_of (byte s p)) (data_at s p)) c h) (items s)
     (first-all (on_known k s rule) (items s) e)
 
 -- rule 6 is not broken: each item ends at the check byte or before it
-pub unpassed-fit : (s : List ℕ) → rule6 s ≡ Nothing → All (λ p. (3 ≤ p) × (next s p ≤ check_place s)) (items s)
+pub unpassed-fit : (s : List ℕ) → rule6 s ≡ None → All (λ p. (3 ≤ p) × (next s p ≤ check_place s)) (items s)
 unfolding rule6
 unpassed-fit s e =
-    all-both (λ p. (3 ≤ p) × (p < check_place s)) (λ p. passes s p ≡ Nothing) (λ p. (3 ≤ p) × (next s p ≤ check_place s))
+    all-both (λ p. (3 ≤ p) × (p < check_place s)) (λ p. passes s p ≡ None) (λ p. (3 ≤ p) × (next s p ≤ check_place s))
     (λ p w c. (
       w.0,
       ltb-false (check_place s) (next s p)
@@ -57,24 +55,24 @@ unpassed-fit s e =
     (items s) (items-within s) (first-all (passes s) (items s) e)
 
 -- and so does the pool that is used
-pub unpassed-pool : (k : Kinds) (s : List ℕ) → rule6 s ≡ Nothing → (pool k s).to ≤ check_place s
+pub unpassed-pool : (k : Kinds) (s : List ℕ) → rule6 s ≡ None → (pool k s).to ≤ check_place s
 unfolding pool
 unpassed-pool k s e = go (first (known_of k s 0x01) (items s)) refl
   where
     go : (f : Found) → first (known_of k s 0x01) (items s) ≡ f → (pool_at s f).to ≤ check_place s
-    go (At p) d = (known-holds k s 0x01 p (λ q. (3 ≤ q) × (next s q ≤ check_place s)) (unpassed-fit s e) d).2.1
-    go Nothing d = omega arith
+    go (Some p) d = (known-holds k s 0x01 p (λ q. (3 ≤ q) × (next s q ≤ check_place s)) (unpassed-fit s e) d).2.1
+    go None d = omega arith
 
-module _ (k : Kinds) (s : List ℕ) (n : ℕ) (e : judged k s ≡ Accepted n) where
+module _ (k : Kinds) (s : List ℕ) (n : ℕ) (e : judged k s ≡ Ok n) where
   -- no rule is broken
   pub accepted-clear : Clear (rules k s)
   unfolding judged
-  accepted-clear = clear (rules k s) (Accepted (length (items s))) n e
+  accepted-clear = clear (rules k s) (Ok (length (items s))) n e
 
   -- the answer counts the items
   pub accepted-count : length (items s) ≡ n
   unfolding judged
-  accepted-count = let d : ◌≡◌ {A = Judged} (Accepted (length (items s))) (Accepted n) = after (rules k s) (Accepted (length (items s))) n e in cc
+  accepted-count = let d : ◌≡◌ {A = Judged} (Ok (length (items s))) (Ok n) = after (rules k s) (Ok (length (items s))) n e in cc
 
   -- rules 2 and 3: magic and version
   pub head-accepted : (byte s 0 ≡ 0x56) × (byte s 1 ≡ 0x02)
@@ -103,7 +101,7 @@ module _ (k : Kinds) (s : List ℕ) (n : ℕ) (e : judged k s ≡ Accepted n) wh
   pub pool-last : All (λ p. listed k (Tag 0x01) ≡ true → byte s p ≡ 0x01 → next s p ≡ check_place s) (items s)
   unfolding rule8
   pool-last =
-      all-both (λ p. (3 ≤ p) × (next s p ≤ check_place s)) (λ p. early k s p ≡ Nothing)
+      all-both (λ p. (3 ≤ p) × (next s p ≤ check_place s)) (λ p. early k s p ≡ None)
       (λ p. listed k (Tag 0x01) ≡ true → byte s p ≡ 0x01 → next s p ≡ check_place s)
       (λ p w c h t.
       omega (
@@ -136,7 +134,7 @@ module _ (k : Kinds) (s : List ℕ) (n : ℕ) (e : judged k s ≡ Accepted n) wh
   unfolding rule10 bad_index
   indexes-resolve t =
       let count : ℕ = length (texts s (pool k s)) in
-      all-map (λ p. listed k (Tag (byte s p)) ≡ true → bad_index s count (shape_of (byte s p)) (data_at s p) ≡ Nothing)
+      all-map (λ p. listed k (Tag (byte s p)) ≡ true → bad_index s count (shape_of (byte s p)) (data_at s p) ≡ None)
       (λ p. listed k (Tag (byte s p)) ≡ true → (i : ℕ) → i < index_count (shape_of (byte s p)) → byte s (data_at s p + i) < count)
       (λ p c h i l.
       leb-false count (byte s (data_at s p + i))

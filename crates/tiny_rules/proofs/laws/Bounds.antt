@@ -1,6 +1,6 @@
 -- Between which bounds the judge's answers lie. By the paper's table: L is a byte, so an item starts below 256, and ends there once rule 6 is not broken.
 -- Assumes nothing.
-use Rattle.std.specs.Prelude.{ℕ, ◌+◌, ◌≤◌, List, ◌≡◌, refl}
+use Rattle.std.specs.Prelude.{ℕ, ◌+◌, ◌≤◌, List, ◌≡◌, refl, Ok}
 use Rattle.std.proofs.Common.{inl, inr, arith}
 use Rattle.chain.specs.Finds.{Nowhere}
 use Rattle.chain.proofs.laws.Below.{below}
@@ -17,7 +17,6 @@ use Rattle.tiny_rules.specs.Judged.{judged}
 use Rattle.tiny_rules.proofs.laws.Accepted.{total-within, accepted-count}
 use Rattle.tiny_rules.proofs.laws.Table.{refused-exactly}
 use Rattle.verdict.specs.Verdict.{refusal}
-use Rattle.verdict.specs.declared.Judged.TheVariants.{Accepted}
 use Rattle.verdict.proofs.laws.Bounds.{Bounded, row, first-within}
 
 module _ (k : Kinds) (s : List ℕ) (octets : Octets s) where
@@ -80,7 +79,7 @@ module _ (k : Kinds) (s : List ℕ) (octets : Octets s) where
   refused-bounds n p e = first-within 1 11 255 (table k s) refl bounded n p ((refused-exactly k s n p).0 e)
 
   -- an accepted image has fewer than 256 items
-  pub accepted-bound : (n : ℕ) → judged k s ≡ Accepted n → n ≤ 255
+  pub accepted-bound : (n : ℕ) → judged k s ≡ Ok n → n ≤ 255
   accepted-bound n e =
       omega (
         arith,

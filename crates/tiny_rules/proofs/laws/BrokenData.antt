@@ -5,7 +5,7 @@ use Rattle.std.proofs.Common.{inl, inr, subst, arith, leb-true, le-leb}
 use Rattle.std.proofs.Math.Path.{refl, ap₂}
 use Rattle.chain.specs.Finds.{Among, Finds}
 use Rattle.chain.specs.First.{first, or_else, when}
-use Rattle.chain.specs.declared.Found.{Found}
+use Rattle.chain.specs.Found.{Found}
 use Rattle.chain.proofs.laws.Clauses.{Clause, test, several}
 use Rattle.chain.proofs.laws.Finds.{finds-as, finds-under}
 use Rattle.chain.proofs.laws.First.{or_else-nothing}

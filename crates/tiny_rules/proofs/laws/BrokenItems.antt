@@ -1,6 +1,6 @@
 -- Rules 6 to 9 find the smallest place at which their row of the paper's table is broken. Rules 6 to 8 look at an item's tag, and so does the search for the
 -- pool; where rule 8 is not broken there is one pool at most, so rule 9 looks at the bytes of all of them. Assumes nothing.
-use Rattle.std.specs.Prelude.{ℕ, ◌+◌, ◌≤◌, ◌<◌, Bool, false, ◌&&◌, ◌||◌, List, ◌⊎◌, ◌≡◌, refl}
+use Rattle.std.specs.Prelude.{ℕ, ◌+◌, ◌≤◌, ◌<◌, Bool, false, ◌&&◌, ◌||◌, List, ◌⊎◌, ◌≡◌, refl, Some, None}
 use Rattle.std.proofs.Math.Bool.{true}
 use Rattle.std.proofs.Math.Logic.{inl, inr}
 use Rattle.std.proofs.Common.{sym, subst, arith}
@@ -8,8 +8,7 @@ use Rattle.std.proofs.Math.Dec.{eqb, ltb}
 use Rattle.chain.specs.Chain.{range}
 use Rattle.chain.specs.Finds.{Among, Finds}
 use Rattle.chain.specs.First.{first, when}
-use Rattle.chain.specs.declared.Found.{Found}
-use Rattle.chain.specs.declared.Found.TheVariants.{At, Nothing}
+use Rattle.chain.specs.Found.{Found}
 use Rattle.chain.proofs.laws.Among.{among-goes}
 use Rattle.chain.proofs.laws.Apart.{among-behind}
 use Rattle.chain.proofs.laws.Below.{below}
@@ -97,7 +96,7 @@ module _ (k : Kinds) (s : List ℕ) where
       m p a = means-both (means-pool p a) (means-under (next s p) (check_place s))
 
   -- where it is not broken, no listed pool lies before another
-  pool-alone : rule8 k s ≡ Nothing → (p q : ℕ) → PoolAt k s p → PoolAt k s q → p ≤ q
+  pool-alone : rule8 k s ≡ None → (p q : ℕ) → PoolAt k s p → PoolAt k s q → p ≤ q
   pool-alone e p q a b =
       elim (below q p) [ inl h ↦ absurd (found-none (Broken8 k s) (rule8 k s) finds8 e q (pool_not_last b p a.0.0 h)) | inr h ↦ h ]
 
@@ -109,12 +108,12 @@ module _ (k : Kinds) (s : List ℕ) where
   means-unfit to z = means-either (means-false (is_text (letter (byte s z)))) (means-both (means-equal (z + 1) to) (means-above (byte s z) 128))
 
   -- 9: listed pool: a byte's low seven bits not 20h to 7Eh; last byte unmarked
-  pub finds9 : rule8 k s ≡ Nothing → Finds (Broken9 k s) (rule9 k s)
+  pub finds9 : rule8 k s ≡ None → Finds (Broken9 k s) (rule9 k s)
   unfolding rule9 pool
   finds9 e = go (pool_place k s) finds-pool
     where
       go : (f : Found) → Finds (PoolAt k s) f → Finds (Broken9 k s) (first (unfit s (pool_at s f).to) (range (pool_at s f).from (pool_at s f).to))
-      go (At p) h =
+      go (Some p) h =
           finds-bytes (Broken9 k s) (λ q. no_character s q || end_unmarked s (next s p) q) (data_at s p) (next s p) to
           (λ z b. elim b [ no_character_there q l i j c ↦ at-pool q z l i j (inl c) | last_unmarked q l i j c ↦ at-pool q z l i (omega arith) (inr (j, c)) ])
         where
@@ -128,6 +127,6 @@ module _ (k : Kinds) (s : List ℕ) where
           at-pool q z l i j c =
               subst (λ (x : ℕ). (data_at s x ≤ z) × (z < next s x) × (no_character s z || end_unmarked s (next s x) z ≡ true))
               (omega (arith, pool-alone e q p l h.0, h.1 q l)) (i, j, (means-unfit (next s q) z).1 c)
-      go Nothing h =
+      go None h =
           finds-bytes (Broken9 k s) (λ q. no_character s q || end_unmarked s 0 q) 0 0 (λ z i j t. absurd (omega arith))
           (λ z b. absurd (elim b [ no_character_there q l i j c ↦ h q l | last_unmarked q l i j c ↦ h q l ]))

@@ -1,13 +1,12 @@
 -- The one walk finds what each rule finds along the items: one law on any rule (`gather`), used for each finding. And it carries a number above every
 -- index: with as many strings no item breaks rule 10. Assumes nothing.
-use Rattle.std.specs.Prelude.{ℕ, ◌+◌, ◌≤◌, ◌<◌, List, ◌≡◌, refl, leb, length}
+use Rattle.std.specs.Prelude.{ℕ, ◌+◌, ◌≤◌, ◌<◌, List, ◌≡◌, refl, leb, length, None}
 use Rattle.std.proofs.Common.{inl, inr, sym, ap, subst, ◌∙◌}
 use native.Mathlib.Omega.{arith}
 use Rattle.std.proofs.lemmas.Bool.{lt-leb}
 use Rattle.chain.specs.Chain.{chain}
 use Rattle.chain.specs.First.{first, or_else, search}
-use Rattle.chain.specs.declared.Found.{Found}
-use Rattle.chain.specs.declared.Found.TheVariants.{Nothing}
+use Rattle.chain.specs.Found.{Found}
 use Rattle.chain.proofs.laws.Below.{below}
 use Rattle.chain.proofs.laws.Gather.{gather, gathered}
 use Rattle.chain.proofs.laws.Loops.{turn, done, count-turn, count-done}
@@ -19,9 +18,10 @@ use Rattle.tiny_layout.specs.Pool.{known_of, pool_place}
 use Rattle.tiny_layout.specs.Tags.{index_count}
 use Rattle.tiny_layout.specs.declared.Shape.{Shape}
 use Rattle.tiny_layout.proofs.laws.Layout.{next-grows}
-use Rattle.tiny_rules.specs.Findings.{Above, Noted, Walked}
+use Rattle.tiny_rules.specs.Findings.{head_at, Above, Noted, Walked}
 use Rattle.tiny_rules.specs.Rules.{passes, reserved, early, on_known, bad_index, bad_field, rule6, rule7, rule8, rule11}
 use Rattle.tiny_rules.specs.declared.walk.Findings.{Findings}
+use Rattle.tiny_rules.specs.declared.walk.Head.{Head}
 
 -- ---- a number above bytes
 module _ (s : List ℕ) (least from : ℕ) where
@@ -38,12 +38,16 @@ module _ (s : List ℕ) (least from : ℕ) where
       }
 
 -- with as many strings as a number above the indexes of an item, they do not break rule 10
-pub above-index : (s : List ℕ) (least : ℕ) (a : Shape) (start r n : ℕ) → Above s least start (start + index_count a) r → r ≤ n → bad_index s n a start ≡ Nothing
+pub above-index : (s : List ℕ) (least : ℕ) (a : Shape) (start r n : ℕ) → Above s least start (start + index_count a) r → r ≤ n → bad_index s n a start ≡ None
 unfolding bad_index
 above-index s least a start r n w h =
     none-range (λ q. leb n (byte s q)) (λ q. q) (start + index_count a) start (λ q i j. lt-leb n (byte s q) (omega (arith, w.bytes q i j)))
 
 -- ---- the walk
+-- the head of the item at p is that of the item at the head's own place
+pub seen-here : (s : List ℕ) (p : ℕ) (h : Head) → h ≡ head_at s p → h ≡ head_at s h.place
+seen-here s p h e = subst (λ (g : Head). g ≡ head_at s g.place) (sym e) refl
+
 -- what a rule finds along the items from p on, after what was found before p
 abbrev pub along : List ℕ → (ℕ → Found) → Found → ℕ → Found
 along s rule f p = or_else f (search rule (next s) (check_place s) p)
@@ -69,7 +73,7 @@ module _ (s : List ℕ) where
   ended rule f p h inv = gathered rule (next s) (check_place s) (next-grows s) f p h inv
 
   module _ (k : Kinds) where
-    pub along-start : (f : Findings) → f.passing ≡ Nothing → f.reserved ≡ Nothing → f.early ≡ Nothing → f.pool ≡ Nothing → f.field ≡ Nothing → f.count ≡ 0 → Along k s 3 f
+    pub along-start : (f : Findings) → f.passing ≡ None → f.reserved ≡ None → f.early ≡ None → f.pool ≡ None → f.field ≡ None → f.count ≡ 0 → Along k s 3 f
     unfolding rule6 rule7 rule8 rule11
     along-start f a b c d e n =
         record { passing = rw a; reserved = rw b; early = rw c; pool = rw d; field = rw e; above = λ m l. refl; count = rw n (omega arith); few = omega arith }

@@ -11,7 +11,7 @@ use Rattle.tiny_rules.specs.Judged.{judged}
 use Rattle.tiny_rules.specs.Rules.{rule1, rule2, rule3, rule4}
 use Rattle.tiny_rules.proofs.laws.Same.{judged-same}
 use Rattle.verdict.specs.Verdict.{refusal, refuse}
-use Rattle.verdict.specs.declared.Judged.{Judged}
+use Rattle.verdict.specs.Answers.{Judged}
 
 -- the answer by magic and version, where rule 4 is broken
 abbrev by_head : ℕ → ℕ → Judged

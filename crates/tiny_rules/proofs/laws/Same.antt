@@ -2,7 +2,7 @@
 -- answer, a refusal included. The tables of rules agree rule by rule; the rules from 9 on read data, which lie within the L bytes where rule 6 is
 -- not broken. Assumes nothing.
 use Prim.Native.Nat.{ℕ, ◌+◌, ◌≤◌}
-use Rattle.std.specs.Prelude.{Bool, ◌&&◌, ◌||◌, ◌≡◌, refl, leb, take}
+use Rattle.std.specs.Prelude.{Bool, ◌&&◌, ◌||◌, ◌≡◌, refl, leb, take, None, Ok}
 use Rattle.std.proofs.Math.Bool.{cond, not}
 use mathlib.Core.List.{List}
 use Rattle.std.proofs.Math.Path.{sym, ap, ap₂}
@@ -12,8 +12,7 @@ use Rattle.std.proofs.Math.ListN.{length}
 use Rattle.chain.specs.All.{All}
 use Rattle.chain.specs.Chain.{ahead, range}
 use Rattle.chain.specs.First.{first, when, or_else}
-use Rattle.chain.specs.declared.Found.{Found}
-use Rattle.chain.specs.declared.Found.TheVariants.{Nothing}
+use Rattle.chain.specs.Found.{Found}
 use Rattle.chain.proofs.laws.Agree.{search-agree}
 use Rattle.chain.proofs.laws.All.{all-map}
 use Rattle.chain.proofs.laws.First.{first-agree}
@@ -37,7 +36,6 @@ use Rattle.tiny_layout.proofs.laws.Tags.{fields-within, indexes-within}
 use Rattle.tiny_rules.specs.Judged.{rules, judged}
 use Rattle.tiny_rules.specs.Rules.{rule1, rule2, rule3, rule4, rule5, passes, rule6, reserved, rule7, early, rule8, unfit, rule9, on_known, beyond, bad_index, rule10, is_major, is_minor, is_batch, bad_revision, bad_batch, bad_field, rule11}
 use Rattle.tiny_rules.proofs.laws.Accepted.{unpassed-fit, unpassed-pool}
-use Rattle.verdict.specs.declared.Judged.TheVariants.{Accepted}
 use Rattle.verdict.proofs.laws.Agree.{Agree, agree-more, agree-answer}
 
 module _ (s t : List ℕ) (long : 4 ≤ total s) (same : Same s t 0 (total s)) where
@@ -69,7 +67,7 @@ module _ (s t : List ℕ) (long : 4 ≤ total s) (same : Same s t 0 (total s)) w
       when (listed k (Tag 0x01) && eqb (tag-same s t p head i) 0x01 && ltb (next-same s t p head i) (check-same s t long same i)) p)
 
   -- ---- the rules on data, where rule 6 is not broken
-  module _ (fit : rule6 s ≡ Nothing) (k : Kinds) where
+  module _ (fit : rule6 s ≡ None) (k : Kinds) where
     rule9-same : rule9 k s ≡ rule9 k t
     unfolding rule9
     rule9-same =
@@ -88,9 +86,9 @@ module _ (s t : List ℕ) (long : 4 ≤ total s) (same : Same s t 0 (total s)) w
         along-same (λ p. (3 ≤ p) × (next s p ≤ check_place s)) (unpassed-fit s fit) (on_known k s f) (on_known k t g)
         (λ p w.
         let head : Same s t p (data_at s p) = part-same s t long same p (data_at s p) (omega (arith, w.1, data-within s p)) in
-        ap (λ (r : Found). cond (listed k (Tag (byte s p))) r Nothing)
+        ap (λ (r : Found). cond (listed k (Tag (byte s p))) r None)
         (agree (shape_of (byte s p)) (data_at s p) (omega (arith, w.1, fields-within s p)))
-        ∙ ap₂ (λ (tag start : ℕ). cond (listed k (Tag tag)) (g (shape_of tag) start) Nothing) (tag-same s t p head) (data-same s t p head))
+        ∙ ap₂ (λ (tag start : ℕ). cond (listed k (Tag tag)) (g (shape_of tag) start) None) (tag-same s t p head) (data-same s t p head))
 
     -- rule 10: the string counts are equal, and the indexes are
     count-same : length (texts s (pool k s)) ≡ length (texts t (pool k t))
@@ -110,7 +108,7 @@ module _ (s t : List ℕ) (long : 4 ≤ total s) (same : Same s t 0 (total s)) w
     unfolding rule10
     rule10-same =
         let count : ℕ = length (texts s (pool k s)) in
-        ap (λ (f : Found). cond (listed k (Tag 0x01)) f Nothing)
+        ap (λ (f : Found). cond (listed k (Tag 0x01)) f None)
         (known-same (bad_index s count) (bad_index t count) (index-same count)
         ∙ ap (λ (n : ℕ). first (on_known k t (bad_index t n)) (items t)) count-same)
 
@@ -186,5 +184,5 @@ module _ (s t : List ℕ) (long : 4 ≤ total s) (same : Same s t 0 (total s)) w
     pub judged-same : (k : Kinds) → judged k s ≡ judged k t
     unfolding judged
     judged-same k =
-        agree-answer (rules k s) (rules k t) (Accepted (length (items s))) (Accepted (length (items t))) (rules-same k)
-        (λ _. ap (λ (l : List ℕ). Accepted (length l)) (items-same s t long same))
+        agree-answer (rules k s) (rules k t) (Ok (length (items s))) (Ok (length (items t))) (rules-same k)
+        (λ _. ap (λ (l : List ℕ). Ok (length l)) (items-same s t long same))

@@ -1,6 +1,6 @@
 -- The judge goes by the paper's table: it refuses with n at p exactly where the lowest rule that is broken is n and p is the smallest place where it is, and
 -- accepts exactly where no rule is broken. From what each rule's search finds. Assumes nothing.
-use Rattle.std.specs.Prelude.{ℕ, List, ◌↔◌, ◌≡◌, length}
+use Rattle.std.specs.Prelude.{ℕ, List, ◌↔◌, ◌≡◌, length, Ok}
 use Rattle.kinds.specs.declared.Kinds.{Kinds}
 use Rattle.tiny_layout.specs.Layout.{items}
 use Rattle.tiny_rules.specs.Broken.{table}
@@ -10,7 +10,6 @@ use Rattle.tiny_rules.proofs.laws.BrokenHead.{finds1, finds2, finds3, finds4, fi
 use Rattle.tiny_rules.proofs.laws.BrokenItems.{finds6, finds7, finds8, finds9}
 use Rattle.verdict.specs.Table.{Unbroken, FirstBroken}
 use Rattle.verdict.specs.Verdict.{refusal}
-use Rattle.verdict.specs.declared.Judged.TheVariants.{Accepted}
 use Rattle.verdict.proofs.laws.Table.{Searched, row}
 use Rattle.verdict.proofs.laws.Table as verdict
 
@@ -27,6 +26,6 @@ module _ (k : Kinds) (s : List ℕ) where
   refused-exactly n p = verdict.refused-exactly (length (items s)) (table k s) (rules k s) searched n p
 
   -- accepted exactly where no rule is broken, with the count of the items
-  pub accepted-exactly : (n : ℕ) → (judged k s ≡ Accepted n) ↔ (Unbroken (table k s) × (length (items s) ≡ n))
+  pub accepted-exactly : (n : ℕ) → (judged k s ≡ Ok n) ↔ (Unbroken (table k s) × (length (items s) ≡ n))
   unfolding judged
   accepted-exactly n = verdict.accepted-exactly (length (items s)) (table k s) (rules k s) searched n

@@ -8,7 +8,7 @@ use Rattle.tiny_writer.specs.Written.{written}
 use Rattle.tiny_writer.proofs.laws.Rebuilt.{rebuilt}
 use Rattle.tiny_writer.proofs.laws.Written.{written-reads-back}
 use Rattle.verdict.specs.Said.{says, write_said}
-use Rattle.verdict.specs.declared.WriteAnswer.{WriteAnswer}
+use Rattle.verdict.specs.Answers.{WriteAnswer}
 
 -- what is written reads back
 reads-back4 : ReadsBack parts4 (written parts4 (blank 14)).1

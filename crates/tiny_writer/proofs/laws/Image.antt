@@ -1,13 +1,11 @@
 -- The image that is made of a run and a pool: its length, its total length L, its items, and so its parts. Bytes may follow it. Assumes nothing.
-use Rattle.std.specs.Prelude.{ℕ, ◌+◌, true, false, not, ◌≡◌, length}
+use Rattle.std.specs.Prelude.{ℕ, ◌+◌, Option, true, false, not, ◌≡◌, length, Some, None}
 use mathlib.Core.List.{List, [], ◌∷◌, ◌++◌, map, flatten, append_assoc}
-use Rattle.std.proofs.Math.Option.{Option, none, some}
 use Rattle.std.proofs.Math.Path.{refl, ap}
 use Rattle.std.proofs.Common.{sym, ap₂, ◌∙◌, arith, length-append}
 use Rattle.std.proofs.lemmas.List.{length-map}
 use Rattle.chain.specs.All.{All}
 use Rattle.chain.specs.Keep.{keep}
-use Rattle.chain.specs.declared.Found.TheVariants.{Nothing}
 use Rattle.chain.proofs.laws.All.{all-map, all-append, all-mapped, map-undone}
 use Rattle.chain.proofs.laws.Keep.{keep-front, keep-back}
 use Rattle.crc.specs.Crc8.{crc8}
@@ -34,23 +32,23 @@ image-length x = omega (arith, length-append (body x) (crc8 (unchecked x) ∷ []
 -- ---- the pool as an item
 pool-whole : (pool : Option (List ℕ)) → All (Whole size) (pool_items pool)
 unfolding head_size data_length
-pool-whole none = tt
-pool-whole (some pool) = (omega arith, tt)
+pool-whole None = tt
+pool-whole (Some pool) = (omega arith, tt)
 
 pool-data : (pool : Option (List ℕ)) → data_of (pool_items pool) ≡ pool
-pool-data none = refl
-pool-data (some pool) = refl
+pool-data None = refl
+pool-data (Some pool) = refl
 
 pools-are : (pool : Option (List ℕ)) → All (λ y. is_pool y ≡ true) (pool_items pool)
-pools-are none = tt
-pools-are (some pool) = (refl, tt)
+pools-are None = tt
+pools-are (Some pool) = (refl, tt)
 
 -- ---- the items of the run as they lie in the image
 abbrev laid_run : Parts → List (List ℕ)
 laid_run x = map laid (run_items x.run)
 
 -- what holds of a good item when it is laid
-laid-all : (x : Parts) → rule46 x.run ≡ Nothing → (P : List ℕ → Type 0) → ((y : List ℕ) → Good y → P (laid y)) → All P (laid_run x)
+laid-all : (x : Parts) → rule46 x.run ≡ None → (P : List ℕ → Type 0) → ((y : List ℕ) → Good y → P (laid y)) → All P (laid_run x)
 laid-all x good P h = all-mapped P laid (run_items x.run) (all-map Good (λ y. P (laid y)) h (run_items x.run) (run-good x.run good))
 
 module _ (x : Parts) (rest : List ℕ) where
@@ -74,7 +72,7 @@ module _ (x : Parts) (rest : List ℕ) where
   unfolding body
   image-check = omega (arith, image-total)
 
-  module _ (good : rule46 x.run ≡ Nothing) where
+  module _ (good : rule46 x.run ≡ None) where
     laid-wholes : All (Whole size) (laid_items x)
     laid-wholes =
         all-append (Whole size) (laid_run x) (pool_items x.pool) (laid-all x good (Whole size) laid-whole) (pool-whole x.pool)

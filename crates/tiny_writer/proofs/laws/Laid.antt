@@ -1,17 +1,16 @@
 -- The bytes that a run's items take in an image, from one item to the next, and what their measure tells. Assumes nothing.
-use Rattle.std.specs.Prelude.{ℕ, ◌+◌, ◌≤◌, ◌<◌, ◌≡◌, refl, length}
+use Rattle.std.specs.Prelude.{ℕ, ◌+◌, ◌≤◌, ◌<◌, ◌≡◌, refl, length, Some, None, Ok, Err}
 use mathlib.Core.List.{List, [], ◌++◌, map, flatten}
 use Rattle.std.proofs.Common.{sym, ap, ap₂, ◌∙◌, arith, length-append}
-use Rattle.chain.specs.declared.Found.{Found}
-use Rattle.chain.specs.declared.Found.TheVariants.{At, Nothing}
+use Rattle.chain.specs.Found.{Found}
 use Rattle.octets.specs.Bytes.{byte, run}
 use Rattle.octets.proofs.laws.Bytes.{length-run}
 use Rattle.octets.proofs.laws.Cut.{cut-end, cut-more}
 use Rattle.tiny_layout.specs.Layout.{head_size}
 use Rattle.tiny_writer.specs.Building.{laid_at, laid_from, measured_if, measured}
 use Rattle.tiny_writer.specs.Run.{run_size, rule46, laid}
-use Rattle.tiny_writer.specs.declared.run.Measured.TheVariants.{Bad, Bytes}
 use Rattle.tiny_writer.proofs.laws.Run.{run-some, laid-at}
+use Rattle.verdict.specs.declared.Refusal.{Refusal}
 
 -- from the end on there are none
 pub laid-end : (r : List ℕ) (p : ℕ) → length r ≤ p → laid_from r p ≡ []
@@ -42,20 +41,23 @@ laid-step r p h =
     ap length (laid-more r p h) ∙ length-append (laid_at r p) (laid_from r (p + run_size r p))
     ∙ omega (arith, laid-length r p)
 
--- the number of a bad item is that of 46
-pub measured-bad : (r : List ℕ) (n : ℕ) → measured r ≡ Bad n → rule46 r ≡ At n
+-- a refusal is 46 at the first bad item
+pub measured-bad : (r : List ℕ) (e : Refusal) → Err e ≡ measured r → (rule46 r ≡ Some e.place) × (e ≡ record { number = 46; place = e.place })
 unfolding measured
-measured-bad r n = go (rule46 r)
+measured-bad r e = go (rule46 r)
   where
-    go : (f : Found) → measured_if r f ≡ Bad n → f ≡ At n
-    go (At m) e = let d : m ≡ n = cc in ap At d
-    go Nothing e = cc
+    go : (f : Found) → Err e ≡ measured_if r f → (f ≡ Some e.place) × (e ≡ record { number = 46; place = e.place })
+    go (Some m) d =
+        let k : e ≡ record { number = 46; place = m } = cc in
+        let at : m ≡ e.place = ap (λ (q : Refusal). q.place) (sym k) in
+        (ap Some at, k ∙ ap (λ (p : ℕ). record { number = 46; place = p }) at)
+    go None d = cc
 
 -- without one, 46 is not broken, and the bytes are counted
-pub measured-good : (r : List ℕ) (n : ℕ) → measured r ≡ Bytes n → (rule46 r ≡ Nothing) × (n ≡ length (laid_from r 0))
+pub measured-good : (r : List ℕ) (n : ℕ) → Ok n ≡ measured r → (rule46 r ≡ None) × (n ≡ length (laid_from r 0))
 unfolding measured
 measured-good r n = go (rule46 r)
   where
-    go : (f : Found) → measured_if r f ≡ Bytes n → (f ≡ Nothing) × (n ≡ length (laid_from r 0))
-    go (At m) e = (cc, cc)
-    go Nothing e = (refl, cc)
+    go : (f : Found) → Ok n ≡ measured_if r f → (f ≡ None) × (n ≡ length (laid_from r 0))
+    go (Some m) e = cc
+    go None e = (refl, cc)

@@ -1,9 +1,8 @@
 -- The pool of an accepted image is its last item: so the other items, and the pool made of its data after them, are the image's items in their order.
 -- And where no item follows a pool, each pool reaches the end of the items. Assumes nothing.
-use Rattle.std.specs.Prelude.{ℕ, ◌≤◌, Bool, true, false, List, [], ◌∷◌, ◌++◌, ◌≡◌, refl, length, drop}
+use Rattle.std.specs.Prelude.{ℕ, ◌≤◌, Bool, true, false, List, [], ◌∷◌, ◌++◌, ◌≡◌, refl, length, drop, Option, Some, None, Ok}
 use Rattle.std.proofs.lemmas.Bool.{false≢true}
 use Rattle.std.proofs.Common.{inl, inr, sym, ap, ap₂, ◌∙◌, add-zero, arith, eqb-true}
-use Rattle.std.proofs.Math.Option.{Option, none, some}
 use Rattle.chain.specs.All.{All}
 use Rattle.chain.specs.Chain.{chain}
 use Rattle.chain.specs.Keep.{keep}
@@ -23,7 +22,6 @@ use Rattle.tiny_rules.proofs.laws.Accepted.{pool-last}
 use Rattle.tiny_writer.specs.Image.{pool_items}
 use Rattle.tiny_writer.specs.PartsOf.{is_pool, others, item_bytes, data_of, pool_of}
 use Rattle.tiny_writer.specs.Run.{is_pool_tag}
-use Rattle.verdict.specs.declared.Judged.TheVariants.{Accepted}
 
 -- no item follows a pool
 abbrev pub PoolLast : List (List ℕ) → Type 0
@@ -32,8 +30,8 @@ PoolLast (x ∷ xs) = (is_pool x ≡ true → xs ≡ []) × PoolLast xs
 
 -- so it is where items that are no pools come before at most one pool
 pub pool-after : (ys : List (List ℕ)) (pool : Option (List ℕ)) → All (λ y. is_pool y ≡ false) ys → PoolLast (ys ++ pool_items pool)
-pool-after [] none a = tt
-pool-after [] (some pool) a = ((λ t. refl), tt)
+pool-after [] None a = tt
+pool-after [] (Some pool) a = ((λ t. refl), tt)
 pool-after (y ∷ ys) pool a = ((λ t. absurd (false≢true (sym a.0 ∙ t))), pool-after ys pool a.1)
 
 -- an item of tag 01 is the tag, the length of its data, and its data
@@ -95,7 +93,7 @@ unfolding listed all
 pool-listed = refl
 
 -- its items are those that are no pool, and the pool after them
-pub pool-rejoined : (s : List ℕ) (n : ℕ) → judged full s ≡ Accepted n → others (item_bytes s) ++ pool_items (pool_of s) ≡ item_bytes s
+pub pool-rejoined : (s : List ℕ) (n : ℕ) → judged full s ≡ Ok n → others (item_bytes s) ++ pool_items (pool_of s) ≡ item_bytes s
 unfolding pool_of next
 pool-rejoined s n e =
     rejoined (item_bytes s) (cut-whole size size-some size-own s (check_place s) 3)

@@ -1,12 +1,11 @@
 -- What the reader can say of an image that is made of a run without a bad item: only what rules 7, 9, 10 and 11 say, since header, length, check and
 -- items are the writer's own work and the pool comes last. Assumes nothing.
-use Rattle.std.specs.Prelude.{ℕ, ◌≤◌, Bool, true, false, not, ◌&&◌, ◌≡◌, refl, ltb, length, take}
+use Rattle.std.specs.Prelude.{ℕ, ◌≤◌, Bool, true, false, not, ◌&&◌, ◌≡◌, refl, ltb, length, take, None}
 use mathlib.Core.List.{List, [], ◌∷◌, map, append-nil, Memᴰ}
 use Rattle.std.proofs.Common.{sym, ap, ◌∙◌, arith, take_at}
 use Rattle.std.proofs.lemmas.List.{get_or_at}
 use borrow.Author.Tests.{le-ltb, eq-eqb}
 use Rattle.chain.specs.First.{when}
-use Rattle.chain.specs.declared.Found.TheVariants.{Nothing}
 use Rattle.chain.proofs.laws.All.{all-map}
 use Rattle.chain.proofs.laws.First.{first-none}
 use Rattle.crc.specs.Crc8.{crc8}
@@ -28,20 +27,20 @@ use Rattle.verdict.proofs.laws.Numbers.{Refuses, table-number, rules-number}
 
 -- rules 1 to 6 and rule 8 are not broken
 pub record WellFormed (s : List ℕ) : Type 0 where
-  pub one : rule1 s ≡ Nothing
-  pub two : rule2 s ≡ Nothing
-  pub three : rule3 s ≡ Nothing
-  pub four : rule4 s ≡ Nothing
-  pub five : rule5 s ≡ Nothing
-  pub six : rule6 s ≡ Nothing
-  pub eight : rule8 full s ≡ Nothing
+  pub one : rule1 s ≡ None
+  pub two : rule2 s ≡ None
+  pub three : rule3 s ≡ None
+  pub four : rule4 s ≡ None
+  pub five : rule5 s ≡ None
+  pub six : rule6 s ≡ None
+  pub eight : rule8 full s ≡ None
 
 -- ---- rule 5: the check byte, past all the others
 check-place : (x : Parts) → length (unchecked x) ≡ check_place (image x)
 unfolding image
 check-place x = omega arith
 
-check-right : (x : Parts) → rule5 (image x) ≡ Nothing
+check-right : (x : Parts) → rule5 (image x) ≡ None
 unfolding rule5 image
 check-right x =
     let check : ℕ = crc8 (unchecked x) in
@@ -52,35 +51,35 @@ check-right x =
 
 -- ---- rules 6 and 8: the items reach just to the check byte, and no item follows the pool
 -- what rule 8 asks of an item, which is a pool or not and ends at a
-not-early : (b : Bool) (a end p : ℕ) → (b ≡ true → end ≤ a) → when (b && ltb a end) p ≡ Nothing
+not-early : (b : Bool) (a end p : ℕ) → (b ≡ true → end ≤ a) → when (b && ltb a end) p ≡ None
 not-early true a end p h = rw (le-ltb a end (h refl))
 not-early false a end p h = refl
 
-module _ (x : Parts) (good : rule46 x.run ≡ Nothing) where
+module _ (x : Parts) (good : rule46 x.run ≡ None) where
   abbrev end : ℕ
   end = check_place (image x)
 
   laid-cut : cut size (image x) end 3 ≡ laid_items x
   laid-cut = sym (items-cut (image x)) ∙ rw (append-nil (image x)) at (image-items x [] good)
 
-  items-fit : rule6 (image x) ≡ Nothing
+  items-fit : rule6 (image x) ≡ None
   unfolding rule6 next body
   items-fit =
       first-none (passes (image x)) (items (image x))
-      (all-map (λ q. next (image x) q ≤ end) (λ q. passes (image x) q ≡ Nothing)
+      (all-map (λ q. next (image x) q ≤ end) (λ q. passes (image x) q ≡ None)
       (λ q h. rw (le-ltb end (data_at (image x) q) (omega (arith, data-within (image x) q)), le-ltb end (next (image x) q) h)) (items (image x))
       (cut-fits size size-some (image x) end 3 (rw laid-cut (omega (arith, check-place x)))))
 
-  none-early : rule8 full (image x) ≡ Nothing
+  none-early : rule8 full (image x) ≡ None
   unfolding rule8 listed all
   none-early =
       first-none (early full (image x)) (items (image x))
-      (all-map (ReachesEnd (image x) end) (λ q. early full (image x) q ≡ Nothing)
+      (all-map (ReachesEnd (image x) end) (λ q. early full (image x) q ≡ None)
       (λ q h. not-early (is_pool_tag (byte (image x) q)) (next (image x) q) end q h) (items (image x))
       (last-reaches (image x) end 3 (rw laid-cut (pool-after (map laid (run_items x.run)) x.pool (run-other x [] good)))))
 
 -- the image of a run without a bad item breaks none of them
-pub image-well-formed : (x : Parts) → rule46 x.run ≡ Nothing → WellFormed (image x)
+pub image-well-formed : (x : Parts) → rule46 x.run ≡ None → WellFormed (image x)
 unfolding image rule1 rule2 rule3 rule4
 image-well-formed x good =
     record {

@@ -1,7 +1,7 @@
 -- What is accepted is rebuilt to the last byte: the run and the pool of an image that a reader with the full list accepts are written as its first L bytes.
 -- Assumes nothing.
 use Prim.Native.Nat.{◌<◌, ℕ, suc, ◌+◌, ◌-◌, ◌≤◌}
-use Rattle.std.specs.Prelude.{Bool, true, ◌≡◌, length}
+use Rattle.std.specs.Prelude.{Bool, true, ◌≡◌, length, None, Ok}
 use Rattle.std.proofs.Math.Bool.{false, not}
 use mathlib.Core.List.{List, [], ◌∷◌, ◌++◌, map, flatten}
 use Rattle.std.proofs.Math.Path.{sym, ap, ap₂}
@@ -13,7 +13,6 @@ use borrow.Author.Tests.{le-ltb, not-true}
 use Rattle.chain.specs.All.{All}
 use Rattle.chain.specs.Fill.{tab}
 use Rattle.chain.specs.First.{when}
-use Rattle.chain.specs.declared.Found.TheVariants.{Nothing}
 use Rattle.chain.proofs.laws.All.{all-of, all-map, all-mapped, map-undone}
 use Rattle.chain.proofs.laws.Keep.{keep-all}
 use Rattle.crc.specs.Crc8.{crc8}
@@ -35,9 +34,7 @@ use Rattle.tiny_writer.proofs.laws.Last.{pool-rejoined}
 use Rattle.tiny_writer.proofs.laws.Run.{Good, flatten-run, flatten-good, given-good, laid-given}
 use Rattle.verdict.specs.Said.{says, write_said}
 use Rattle.verdict.specs.Written.{written_if}
-use Rattle.verdict.specs.declared.Judged.{Judged}
-use Rattle.verdict.specs.declared.Judged.TheVariants.{Accepted}
-use Rattle.verdict.specs.declared.WriteAnswer.{WriteAnswer}
+use Rattle.verdict.specs.Answers.{Judged, WriteAnswer}
 use Rattle.verdict.proofs.laws.Accepted.{passed}
 
 -- ---- the items of an image that are no pool: whole items, so good items of a run
@@ -63,11 +60,11 @@ module _ (s : List ℕ) where
       (all-of (λ x. laid (given x) ≡ x) laid-given (others (item_bytes s)))
 
   -- and its run has no bad item
-  pub run-of-good : rule46 (run_of s) ≡ Nothing
+  pub run-of-good : rule46 (run_of s) ≡ None
   unfolding run_of
   run-of-good = flatten-good (map given (others (item_bytes s))) given-all
 
-module _ (s : List ℕ) (n : ℕ) (e : judged full s ≡ Accepted n) where
+module _ (s : List ℕ) (n : ℕ) (e : judged full s ≡ Ok n) where
   -- the items of the image made of its parts are its items
   items-parts : laid_items (parts_of s) ≡ item_bytes s
   items-parts = ap (λ (xs : List (List ℕ)). xs ++ pool_items (pool_of s)) (laid-again s) ∙ pool-rejoined s n e
@@ -104,7 +101,7 @@ module _ (s : List ℕ) (n : ℕ) (e : judged full s ≡ Accepted n) where
       ∙ sym (take-suc s (check_place s) 0 (omega (arith, w))) ∙ ap (λ (m : ℕ). take m s) k
 
   -- the writer accepts them
-  accepted-parts : (room : ℕ) → total s < 256 → total s ≤ room → checked (parts_of s) room ≡ Accepted n
+  accepted-parts : (room : ℕ) → total s < 256 → total s ≤ room → checked (parts_of s) room ≡ Ok n
   unfolding checked
   accepted-parts room byte h =
       let w = total-within full s n e in
@@ -124,7 +121,7 @@ module _ (s : List ℕ) (n : ℕ) (e : judged full s ≡ Accepted n) where
       → (write_said (written (parts_of s) buffer).0 ≡ says (total s)) × ((written (parts_of s) buffer).1 ≡ take (total s) s ++ drop (total s) buffer)
   unfolding written
   rebuilt buffer byte room =
-      let done : written (parts_of s) buffer ≡ written_if (take (total s) s) buffer (Accepted n) =
+      let done : written (parts_of s) buffer ≡ written_if (take (total s) s) buffer (Ok n) =
       ap₂ (λ (l : List ℕ) (j : Judged). written_if l buffer j) image-parts (accepted-parts (length buffer) byte room) in
       let k = length-take-le (total s) s (total-within full s n e).1 in (
         ap (λ (w : WriteAnswer × List ℕ). write_said w.0) done ∙ ap says k,

@@ -1,6 +1,6 @@
 -- The items of a run, and the same items in an image: `laid` and `given` are inverse to each other, and a run without a bad item is its items end to
 -- end. Assumes nothing.
-use Rattle.std.specs.Prelude.{ℕ, ◌+◌, ◌/◌, ◌≤◌, ◌<◌, Bool, true, false, cond, ◌||◌, ◌≡◌, refl, eqb, length}
+use Rattle.std.specs.Prelude.{ℕ, ◌+◌, ◌/◌, ◌≤◌, ◌<◌, Bool, true, false, cond, ◌||◌, ◌≡◌, refl, eqb, length, Some, None}
 use mathlib.Core.List.{List, [], ◌∷◌, ◌++◌, flatten, append-nil, append_assoc}
 use Rattle.std.proofs.Common.{sym, ap, subst, ◌∙◌, add-zero, zero-add, arith, length-append, ltb-false, le-ltb, eqb-true, eq-eqb}
 use Rattle.std.proofs.Math.Nat.{sub-zero}
@@ -8,7 +8,6 @@ use Rattle.std.proofs.lemmas.Bool.{not-false}
 use Rattle.chain.specs.All.{All}
 use Rattle.chain.specs.Chain.{chain}
 use Rattle.chain.specs.Fill.{tab}
-use Rattle.chain.specs.declared.Found.TheVariants.{At, Nothing}
 use Rattle.chain.proofs.laws.All.{all-map, all-mapped}
 use Rattle.chain.proofs.laws.Chain.{chain-end, chain-more}
 use Rattle.chain.proofs.laws.Number.{none-number, number-none, Numbered, number-first}
@@ -48,12 +47,12 @@ unfolding bad_item
 good-item r p e k h = rw (eq-eqb (byte r (p + 1)) (data_length r p) e, k) (le-ltb (length r) (p + run_size r p) h)
 
 -- 46 is not broken: each item is good
-pub items-good : (r : List ℕ) → rule46 r ≡ Nothing → All (λ p. bad_item r p ≡ false) (run_places r)
+pub items-good : (r : List ℕ) → rule46 r ≡ None → All (λ p. bad_item r p ≡ false) (run_places r)
 unfolding rule46
 items-good r e = number-none (bad_item r) 0 (run_places r) e
 
 -- 46 says the number of the first bad item
-pub first-bad : (r : List ℕ) (n : ℕ) → rule46 r ≡ At n → Numbered (bad_item r) (run_places r) 0 n
+pub first-bad : (r : List ℕ) (n : ℕ) → rule46 r ≡ Some n → Numbered (bad_item r) (run_places r) 0 n
 unfolding rule46
 first-bad r n e = number-first (bad_item r) 0 (run_places r) n e
 
@@ -93,12 +92,12 @@ good-in-run r p g h =
     (ap is_pool_tag (sym (tag-run r p)) ∙ g.other) h
 
 -- the items of a run where 46 is not broken: each is good, and end to end they are the run
-pub run-good : (r : List ℕ) → rule46 r ≡ Nothing → All Good (run_items r)
+pub run-good : (r : List ℕ) → rule46 r ≡ None → All Good (run_items r)
 run-good r e =
     all-mapped Good (λ p. run r p (run_size r p)) (run_places r)
     (all-map (λ p. bad_item r p ≡ false) (λ p. Good (run r p (run_size r p))) (good-alone r) (run_places r) (items-good r e))
 
-pub run-flatten : (r : List ℕ) → rule46 r ≡ Nothing → flatten (run_items r) ≡ r
+pub run-flatten : (r : List ℕ) → rule46 r ≡ None → flatten (run_items r) ≡ r
 run-flatten r e =
     flatten-cut run_size run-some r (length r) 0
     (all-map (λ p. bad_item r p ≡ false) (λ p. p + run_size r p ≤ length r) (λ p b. (item-good r p b).2) (run_places r) (items-good r e))
@@ -124,7 +123,7 @@ places-good r a (y ∷ ys) e g =
     rw (chain-more (run_next r) (length r) (run-grows r) (length a) (omega (arith, run-some r (length a))), n, ← length-append a y)
     (good-in-run r (length a) (subst Good (sym i) g.0) (omega arith), places-good r (a ++ y) ys (e ∙ sym (append_assoc a y (flatten ys))) g.1)
 
-pub flatten-good : (ys : List (List ℕ)) → All Good ys → rule46 (flatten ys) ≡ Nothing
+pub flatten-good : (ys : List (List ℕ)) → All Good ys → rule46 (flatten ys) ≡ None
 unfolding rule46
 flatten-good ys g = none-number (bad_item (flatten ys)) 0 (run_places (flatten ys)) (places-good (flatten ys) [] ys refl g)
 

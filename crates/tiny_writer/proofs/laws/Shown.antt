@@ -1,16 +1,14 @@
 -- Item by item: where the items given lie in the image. The item of a number of the run has its tag, its length and its data bytes, so the rows of its tag show
 -- there what they show over the bytes given; the pool comes after them; and no other number has an item. Assumes nothing.
-use Rattle.std.specs.Prelude.{ℕ, ◌+◌, ◌-◌, ◌≤◌, ◌<◌, Bool, ◌&&◌, List, [], ◌∷◌, ◌++◌, map, ◌≡◌, get_or}
+use Rattle.std.specs.Prelude.{ℕ, ◌+◌, ◌-◌, ◌≤◌, ◌<◌, Bool, ◌&&◌, List, [], ◌∷◌, ◌++◌, map, ◌≡◌, get_or, Option, Some, None}
 use Rattle.std.proofs.Math.Bool.{true, false}
 use Rattle.std.proofs.lemmas.Bool.{false≢true}
 use Rattle.std.proofs.Common.{inl, inr, sym, ap₂, subst, ◌∙◌, add-zero, arith, eq-eqb, length-append, get_or-append-add}
-use Rattle.std.proofs.Math.Option.{Option, none, some}
 use Rattle.std.proofs.Math.Path.{refl, ap}
 use Rattle.std.proofs.Math.ListN.{length, get_or-append}
 use Rattle.std.proofs.lemmas.List.{length-map, get_or_at}
 use Rattle.chain.specs.First.{when}
 use Rattle.chain.specs.Nth.{nth}
-use Rattle.chain.specs.declared.Found.TheVariants.{At, Nothing}
 use Rattle.chain.proofs.laws.All.{all-get_or, map-get_or}
 use Rattle.chain.proofs.laws.Below.{below}
 use Rattle.chain.proofs.laws.Fill.{tab-agree}
@@ -110,7 +108,7 @@ texts-given s p d l = ap split (ap (run s (data_at s p)) long ∙ same ∙ run-a
         (λ j h. l.bytes j h ∙ get_or-append-add (0x01 ∷ (length d ∷ [])) d j 0 ∙ ap (byte d) (omega arith))
 
 -- ---- the items of an image by number
-module _ (x : Parts) (rest : List ℕ) (good : rule46 x.run ≡ Nothing) where
+module _ (x : Parts) (rest : List ℕ) (good : rule46 x.run ≡ None) where
   abbrev s : List ℕ
   s = image x ++ rest
 
@@ -127,7 +125,7 @@ module _ (x : Parts) (rest : List ℕ) (good : rule46 x.run ≡ Nothing) where
       ∙ ap (λ (l : List (List ℕ)). get_or l i []) (image-items x rest good)
 
   -- item i of the run
-  pub run-stands : (i : ℕ) → i < count → nth (items s) i ≡ At (place_at i)
+  pub run-stands : (i : ℕ) → i < count → nth (items s) i ≡ Some (place_at i)
   run-stands i h = nth-below (items s) i (omega (arith, image-count x rest good))
 
   pub good-at : (i : ℕ) → i < count → Good (get_or (run_items x.run) i [])
@@ -141,11 +139,11 @@ module _ (x : Parts) (rest : List ℕ) (good : rule46 x.run ≡ Nothing) where
       ∙ map-get_or laid (run_items x.run) i [] [] h)
 
   -- the pool, after them
-  module _ (d : List ℕ) (e : x.pool ≡ some d) where
+  module _ (d : List ℕ) (e : x.pool ≡ Some d) where
     one-pool : length (pool_items x.pool) ≡ 1
     one-pool = ap (λ o. length (pool_items o)) e
 
-    pub pool-stands : nth (items s) count ≡ At (place_at count)
+    pub pool-stands : nth (items s) count ≡ Some (place_at count)
     pool-stands = nth-below (items s) count (omega (arith, image-count x rest good, one-pool))
 
     pub pool-lies-last : Lies s (place_at count) (0x01 ∷ (length d ∷ d))
@@ -155,37 +153,37 @@ module _ (x : Parts) (rest : List ℕ) (good : rule46 x.run ≡ Nothing) where
         ∙ get_or_at (map laid (run_items x.run)) (0x01 ∷ (length d ∷ d)) [] [] count (length-map (run_items x.run) laid))
 
   -- and none past them
-  pub none-past : (i : ℕ) → count + length (pool_items x.pool) ≤ i → nth (items s) i ≡ Nothing
+  pub none-past : (i : ℕ) → count + length (pool_items x.pool) ≤ i → nth (items s) i ≡ None
   none-past i h = nth-past (items s) i (omega (arith, image-count x rest good))
 
   -- so what holds of each item of the run and of the pool holds of each item
-  pub run-or-pool : (P : ℕ → ℕ → Type 0) → ((i : ℕ) → i < count → P i (place_at i)) → ((d : List ℕ) → x.pool ≡ some d → P count (place_at count))
-      → (j q : ℕ) → nth (items s) j ≡ At q → P j q
+  pub run-or-pool : (P : ℕ → ℕ → Type 0) → ((i : ℕ) → i < count → P i (place_at i)) → ((d : List ℕ) → x.pool ≡ Some d → P count (place_at count))
+      → (j q : ℕ) → nth (items s) j ≡ Some q → P j q
   run-or-pool P runs pool j q at = elim (below j count) [ inl h ↦ found j (run-stands j h) at (runs j h) | inr h ↦ past x.pool refl h ]
     where
-      found : (i : ℕ) → nth (items s) i ≡ At (place_at i) → nth (items s) i ≡ At q → P i (place_at i) → P i q
+      found : (i : ℕ) → nth (items s) i ≡ Some (place_at i) → nth (items s) i ≡ Some q → P i (place_at i) → P i q
       found i a b w = let z : place_at i ≡ q = cc in subst (P i) z w
 
       past : (o : Option (List ℕ)) → x.pool ≡ o → count ≤ j → P j q
-      past none e h = absurd (at-nothing (sym at ∙ none-past j (omega (arith, ap (λ o. length (pool_items o)) e))))
-      past (some d) e h =
+      past None e h = absurd (at-nothing (sym at ∙ none-past j (omega (arith, ap (λ o. length (pool_items o)) e))))
+      past (Some d) e h =
           elim (below j (count + 1)) [
             | inl l ↦
                 let z : count ≡ j = omega arith in
-                subst (λ (i : ℕ). nth (items s) i ≡ At q → P i q) z (λ a. found count (pool-stands d e) a (pool d e)) at
+                subst (λ (i : ℕ). nth (items s) i ≡ Some q → P i q) z (λ a. found count (pool-stands d e) a (pool d e)) at
             | inr l ↦ absurd (at-nothing (sym at ∙ none-past j (omega (arith, one-pool d e))))
           ]
 
   -- without a pool no item is one, whatever is on the list
-  pub none-pool : (k : Kinds) → x.pool ≡ none → pool k s ≡ record { from = 0; to = 0 }
+  pub none-pool : (k : Kinds) → x.pool ≡ None → pool k s ≡ record { from = 0; to = 0 }
   unfolding pool
   none-pool k e =
       ap (pool_at s)
       (first-none (known_of k s 0x01) (items s)
-      (all-of-nth (λ q. known_of k s 0x01 q ≡ Nothing) (items s)
-      (run-or-pool (λ j q. known_of k s 0x01 q ≡ Nothing) (λ i h. unmarked (listed k (Tag 0x01)) (place_at i) (ap is_pool_tag (run-lies i h).tag ∙ (good-at i h).other))
+      (all-of-nth (λ q. known_of k s 0x01 q ≡ None) (items s)
+      (run-or-pool (λ j q. known_of k s 0x01 q ≡ None) (λ i h. unmarked (listed k (Tag 0x01)) (place_at i) (ap is_pool_tag (run-lies i h).tag ∙ (good-at i h).other))
       (λ d f. absurd (omega (arith, ap (λ o. length (pool_items o)) (sym e ∙ f)))))))
     where
-      unmarked : (b : Bool) (q : ℕ) → is_pool_tag (byte s q) ≡ false → when (b && is_pool_tag (byte s q)) q ≡ Nothing
+      unmarked : (b : Bool) (q : ℕ) → is_pool_tag (byte s q) ≡ false → when (b && is_pool_tag (byte s q)) q ≡ None
       unmarked true q off = ap (λ (t : Bool). when t q) off
       unmarked false q off = refl

@@ -1,10 +1,9 @@
 -- What is written is accepted and reads back: the buffer after a call that answers a length is accepted with the full list, the count is that of the run's
 -- items and the pool, and the run and the pool read from it are those given. Assumes nothing.
-use Rattle.std.specs.Prelude.{ℕ, ◌≤◌, List, ◌++◌, ◌≡◌, length}
+use Rattle.std.specs.Prelude.{ℕ, ◌≤◌, List, ◌++◌, ◌≡◌, length, None, Ok, Err}
 use Rattle.std.proofs.Math.Path.{refl, ap, subst}
 use Rattle.std.proofs.Common.{sym, ◌∙◌, arith, length-drop, length-append}
 use Rattle.std.proofs.Math.ListN.{drop, get_or-append}
-use Rattle.chain.specs.declared.Found.TheVariants.{Nothing}
 use Rattle.kinds.specs.Kinds.{full}
 use Rattle.tiny_layout.specs.Layout.{total}
 use Rattle.tiny_rules.specs.Judged.{judged}
@@ -18,23 +17,22 @@ use Rattle.tiny_writer.specs.Written.{writer_rules, checked, written}
 use Rattle.tiny_writer.proofs.laws.Image.{image-length, image-count, parts-image}
 use Rattle.verdict.specs.Said.{Said, says, refused, write_said}
 use Rattle.verdict.specs.Written.{written_if}
-use Rattle.verdict.specs.declared.Judged.{Judged}
-use Rattle.verdict.specs.declared.Judged.TheVariants.{Accepted, Refused}
+use Rattle.verdict.specs.Answers.{Judged}
 use Rattle.verdict.proofs.laws.Accepted.{Clear, clear, after}
 
 -- the image of a run without a bad item, where it is accepted: it reads back, whatever bytes follow it
 image-reads-back :
-    (x : Parts) (rest : List ℕ) (count : ℕ) → rule46 x.run ≡ Nothing → judged full (image x) ≡ Accepted count → ReadsBack x (image x ++ rest)
+    (x : Parts) (rest : List ℕ) (count : ℕ) → rule46 x.run ≡ None → judged full (image x) ≡ Ok count → ReadsBack x (image x ++ rest)
 image-reads-back x rest count good e =
     record {
-      accepted = carried ∙ ap Accepted (sym (accepted-count full (image x ++ rest) count carried) ∙ image-count x rest good);
+      accepted = carried ∙ ap Ok (sym (accepted-count full (image x ++ rest) count carried) ∙ image-count x rest good);
       same = parts-image x rest good;
     }
   where
     within : (4 ≤ total (image x)) × (total (image x) ≤ length (image x))
     within = total-within full (image x) count e
 
-    carried : judged full (image x ++ rest) ≡ Accepted count
+    carried : judged full (image x ++ rest) ≡ Ok count
     carried =
         sym
         (judged-same (image x) (image x ++ rest) within.0 (λ q _ h. sym (get_or-append (image x) rest 0 q (omega (arith, within.1))))
@@ -45,7 +43,7 @@ module _ (x : Parts) (buffer : List ℕ) (n : ℕ) (e : write_said (written x bu
   -- the check accepts, and the image's length is answered
   record Passed : Type 0 where
     count : ℕ
-    told : checked x (length buffer) ≡ Accepted count
+    told : checked x (length buffer) ≡ Ok count
     size : length (image x) ≡ n
 
   passed : Passed
@@ -53,19 +51,19 @@ module _ (x : Parts) (buffer : List ℕ) (n : ℕ) (e : write_said (written x bu
   passed = go (checked x (length buffer)) refl e
     where
       go : (j : Judged) → checked x (length buffer) ≡ j → write_said (written_if (image x) buffer j).0 ≡ says n → Passed
-      go (Accepted count) d c = record { count = count; told = d; size = cc }
-      go (Refused r) d c = record { count = 0; told = cc; size = cc }
+      go (Ok count) d c = record { count = count; told = d; size = cc }
+      go (Err r) d c = record { count = 0; told = cc; size = cc }
 
   rules-clear : Clear (writer_rules x (length buffer))
   unfolding checked
   rules-clear = clear (writer_rules x (length buffer)) (judged full (image x)) passed.count passed.told
 
-  image-accepted : judged full (image x) ≡ Accepted passed.count
+  image-accepted : judged full (image x) ≡ Ok passed.count
   unfolding checked
   image-accepted = after (writer_rules x (length buffer)) (judged full (image x)) passed.count passed.told
 
   -- no rule of the writer is broken: what that says in numbers
-  pub written-within : (rule46 x.run ≡ Nothing) × (n ≡ image_length x) × (n ≤ 255) × (n ≤ length buffer)
+  pub written-within : (rule46 x.run ≡ None) × (n ≡ image_length x) × (n ≤ 255) × (n ≤ length buffer)
   written-within =
       let size : n ≡ image_length x = sym passed.size ∙ image-length x in (
         rules-clear.0,
@@ -93,8 +91,8 @@ unfolding written
 refused-unchanged x buffer m p e = go (checked x (length buffer)) e
   where
     go : (j : Judged) → write_said (written_if (image x) buffer j).0 ≡ refused m p → (written_if (image x) buffer j).1 ≡ buffer
-    go (Accepted count) c = cc
-    go (Refused r) c = refl
+    go (Ok count) c = cc
+    go (Err r) c = refl
 
 -- a buffer stays as long as it is, whatever is answered
 pub written-length : (x : Parts) (buffer : List ℕ) → length (written x buffer).1 ≡ length buffer

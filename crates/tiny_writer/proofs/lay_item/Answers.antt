@@ -1,5 +1,5 @@
 -- `lay_item` meets its contract: the head is put after what the image holds, and the data after the head. Assumes nothing.
-use Rattle.std.proofs.Common.{◌+◌, length, take, refl, ◌∙◌, ap, arith}
+use Rattle.std.proofs.Common.{rules, ◌+◌, length, take, refl, ◌∙◌, ap, arith}
 use Rattle.octets.specs.Bytes.{byte}
 use Rattle.octets.proofs.laws.Bytes.{length-run, part-run}
 use Rattle.tiny_layout.specs.Layout.{head_size}
@@ -16,7 +16,7 @@ slice_bounds-put_at-end c = let a = c.args in
 
 pub slice_bounds-put_at-end-2 : goal.slice_bounds-put_at-end-2
 unfolding run_size
-slice_bounds-put_at-end-2 c = omega (arith, c.requires.0, c.byte_from-count.ensures)
+slice_bounds-put_at-end-2 c = search rules
 
 pub returns : goal.returns
 unfolding run_size

@@ -20,11 +20,6 @@ lay_item-requires c = let l = c.loop-at in
     let f = laying-fits c.args.items.now _ _ _ _ _ c.loop-at-test.true l.invariant in
     (f.0, omega (arith, f.1, l.invariant.long))
 
-pub overflow_add-to : goal.overflow_add-to
-overflow_add-to c = let l = c.loop-at in
-    let f = laying-fits _ _ _ _ _ _ c.loop-at-test.true l.invariant in
-    omega (arith, f.1, c.laid_size.ensures)
-
 pub loop-at-smaller : goal.loop-at-smaller
 loop-at-smaller c = let l = c.loop-at in
     let s = c.args.items.now in

@@ -1,31 +1,29 @@
 -- What acceptance tells: no rule of the table is broken. And when one table accepts what another accepts. Assumes nothing.
-use Rattle.std.specs.Prelude.{ℕ, List, [], ◌∷◌, ◌≡◌, refl}
-use Rattle.chain.specs.declared.Found.{Found}
-use Rattle.chain.specs.declared.Found.TheVariants.{At, Nothing}
+use Rattle.std.specs.Prelude.{ℕ, List, [], ◌∷◌, ◌≡◌, refl, Some, None, Ok}
+use Rattle.chain.specs.Found.{Found}
 use Rattle.verdict.specs.Verdict.{refuse, answer}
-use Rattle.verdict.specs.declared.Judged.{Judged}
-use Rattle.verdict.specs.declared.Judged.TheVariants.{Accepted}
+use Rattle.verdict.specs.Answers.{Judged}
 
 -- no rule of the table is broken
 abbrev pub Clear : List (ℕ × Found) → Type 0
 Clear [] = Unit {0}
-Clear (r ∷ rs) = (r.1 ≡ Nothing) × Clear rs
+Clear (r ∷ rs) = (r.1 ≡ None) × Clear rs
 
 -- ---- one rule: it is not broken, and what comes after it accepts
-pass : (n : ℕ) (f : Found) (j : Judged) (m : ℕ) → refuse n f j ≡ Accepted m → f ≡ Nothing
-pass n (At p) j m e = cc
-pass n Nothing j m e = refl
+pass : (n : ℕ) (f : Found) (j : Judged) (m : ℕ) → refuse n f j ≡ Ok m → f ≡ None
+pass n (Some p) j m e = cc
+pass n None j m e = refl
 
-rest : (n : ℕ) (f : Found) (j : Judged) (m : ℕ) → refuse n f j ≡ Accepted m → j ≡ Accepted m
-rest n (At p) j m e = cc
-rest n Nothing j m e = e
+rest : (n : ℕ) (f : Found) (j : Judged) (m : ℕ) → refuse n f j ≡ Ok m → j ≡ Ok m
+rest n (Some p) j m e = cc
+rest n None j m e = e
 
 -- ---- a table accepts exactly where it is clear and what comes after it accepts
-pub clear : (l : List (ℕ × Found)) (j : Judged) (m : ℕ) → answer l j ≡ Accepted m → Clear l
+pub clear : (l : List (ℕ × Found)) (j : Judged) (m : ℕ) → answer l j ≡ Ok m → Clear l
 clear [] j m e = tt
 clear (r ∷ rs) j m e = (pass r.0 r.1 (answer rs j) m e, clear rs j m (rest r.0 r.1 (answer rs j) m e))
 
-pub after : (l : List (ℕ × Found)) (j : Judged) (m : ℕ) → answer l j ≡ Accepted m → j ≡ Accepted m
+pub after : (l : List (ℕ × Found)) (j : Judged) (m : ℕ) → answer l j ≡ Ok m → j ≡ Ok m
 after [] j m e = e
 after (r ∷ rs) j m e = after rs j m (rest r.0 r.1 (answer rs j) m e)
 
@@ -38,9 +36,9 @@ abbrev pub Weaker : List (ℕ × Found) → List (ℕ × Found) → Type 0
 Weaker [] [] = Unit {0}
 Weaker [] (y ∷ ys) = ⊥
 Weaker (x ∷ xs) [] = ⊥
-Weaker (x ∷ xs) (y ∷ ys) = (x.1 ≡ Nothing → y.1 ≡ Nothing) × Weaker xs ys
+Weaker (x ∷ xs) (y ∷ ys) = (x.1 ≡ None → y.1 ≡ None) × Weaker xs ys
 
-pub weaker-accepts : (l m : List (ℕ × Found)) (i j : Judged) (n : ℕ) → Weaker l m → (i ≡ Accepted n → j ≡ Accepted n) → answer l i ≡ Accepted n → answer m j ≡ Accepted n
+pub weaker-accepts : (l m : List (ℕ × Found)) (i j : Judged) (n : ℕ) → Weaker l m → (i ≡ Ok n → j ≡ Ok n) → answer l i ≡ Ok n → answer m j ≡ Ok n
 weaker-accepts [] [] i j n w h e = h e
 weaker-accepts [] (y ∷ ys) i j n w h e = absurd w
 weaker-accepts (x ∷ xs) [] i j n w h e = absurd w

@@ -8,5 +8,5 @@ use Rattle.crc.proofs.crc32.crc32_field_as_zero.Goals as goal
 pub returns : goal.returns
 unfolding crc32
 returns c = ap (λ (x : ℕ). bit_xor x 0xFFFF_FFFF)
-    (run-blank _ _ c.args.s.now c.least-at.ensures c.least-end.ensures 0xFFFF_FFFF _ _ c.run.result
+    (run-blank _ _ c.args.s.now c.min-at.ensures c.min-end.ensures 0xFFFF_FFFF _ _ c.run.result
     c.run_words-before.ensures c.run_words-field.ensures c.run.ensures)

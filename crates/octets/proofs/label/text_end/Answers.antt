@@ -14,10 +14,10 @@ unfolding text_end
 loop-i-init c = refl
 
 pub loop-i-preserved : goal.loop-i-preserved
-loop-i-preserved c = turn _ _ _ one-grows _ _ c.loop-i-test.true (rw (sym (c.is_label_text.ensures ∙ ap is_label_text c.byte_from.ensures) ∙ c.if-is_label_text.true)) refl c.loop-i.invariant
+loop-i-preserved c = turn _ _ _ one-grows _ _ c.loop-i-test.true (rw (sym (c.is_label_text.ensures ∙ ap is_label_text c.byte_from.ensures)) search) refl c.loop-i.invariant
 
-pub returns-else-is_label_text : goal.returns-else-is_label_text
-returns-else-is_label_text c = hit _ _ _ one-grows _ _ c.loop-i-test.true (rw (sym (c.is_label_text.ensures ∙ ap is_label_text c.byte_from.ensures) ∙ c.if-is_label_text.false)) c.loop-i.invariant
+pub returns-then-not-is_label_text : goal.returns-then-not-is_label_text
+returns-then-not-is_label_text c = hit _ _ _ one-grows _ _ c.loop-i-test.true (rw (sym (c.is_label_text.ensures ∙ ap is_label_text c.byte_from.ensures)) (rw c.if-not-is_label_text.true refl)) c.loop-i.invariant
 
 pub returns : goal.returns
 returns c = done _ _ _ one-grows _ c.loop-i-test.false c.loop-i.invariant

@@ -5,4 +5,4 @@ use Rattle.reader.proofs.entries.board_entry.Goals as goal
 
 pub returns : goal.returns
 unfolding entry_at shape_at
-returns c = rw (c.is_known.ensures, c.shape_of.ensures, c.past_head.ensures, c.head_at-head.ensures)
+returns c = rw (c.is_known.ensures, c.shape_of.ensures, c.saturating_sub.ensures, c.head_at-head.ensures)

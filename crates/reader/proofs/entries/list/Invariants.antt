@@ -1,5 +1,5 @@
 -- The loop of `list`: the first i entries are stored, and `at` is where item i starts. Assumes nothing.
-use Rattle.std.proofs.Common.{◌≡◌, ◌≤◌, ◌-◌}
+use Rattle.std.proofs.Common.{◌≡◌}
 use Rattle.chain.specs.Fill.{filled}
 use Rattle.reader.proofs.laws.List.{place_of, entry_of}
 use Rattle.reader.proofs.entries.list.Given as goal
@@ -9,8 +9,4 @@ invariant-loop-i l =
     record {
       stored : l.out ≡ filled (entry_of l.format l.kinds l.image) l.i l.initial.out;
       place : l.at ≡ place_of l.format l.image l.i;
-      in_range : l.i ≤ l.count;
     }
-
-abbrev pub decreases-loop-i : goal.decreases-loop-i
-decreases-loop-i l = l.count - l.i

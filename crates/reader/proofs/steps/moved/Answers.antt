@@ -3,12 +3,12 @@ use Rattle.std.proofs.Common.{sym, ◌∙◌, ap}
 use Rattle.reader.specs.Walk.{moved_if, moved}
 use Rattle.reader.proofs.steps.moved.Goals as goal
 
-pub returns-in-Accepted : goal.returns-in-Accepted
+pub returns-in-Ok : goal.returns-in-Ok
 unfolding moved
-returns-in-Accepted c = let a = c.args in
-    c.go_on.ensures ∙ sym (ap (moved_if a.format a.image.now a.position) c.in-Accepted.is)
+returns-in-Ok c = let a = c.args in
+    c.go_on.ensures ∙ sym (ap (moved_if a.format a.image.now a.position) c.in-Ok.is)
 
-pub returns-in-Refused : goal.returns-in-Refused
+pub returns-in-Err : goal.returns-in-Err
 unfolding moved
-returns-in-Refused c = let a = c.args in
-    sym (ap (moved_if a.format a.image.now a.position) c.in-Refused.is)
+returns-in-Err c = let a = c.args in
+    sym (ap (moved_if a.format a.image.now a.position) c.in-Err.is)

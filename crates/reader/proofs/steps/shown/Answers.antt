@@ -3,17 +3,17 @@ use Rattle.std.proofs.Common.{sym, ap, le-ltb, lt-ltb}
 use Rattle.reader.specs.Walk.{shown_if, shown}
 use Rattle.reader.proofs.steps.shown.Goals as goal
 
-pub returns-then-at-position : goal.returns-then-at-position
+pub returns-in-Ok : goal.returns-in-Ok
 unfolding shown
-returns-then-at-position c = let a = c.args in
-    rw (ap (shown_if a.format a.kinds a.image.now a.position) c.in-Accepted.is, lt-ltb _ _ c.if-at-position.true, c.item_at.ensures)
+returns-in-Ok c = let a = c.args in
+    rw (ap (shown_if a.format a.kinds a.image.now a.position) c.in-Ok.is, lt-ltb _ _ c.if-position.true, c.item_at.ensures)
 
-pub returns-else-at-position : goal.returns-else-at-position
+pub returns-in-Ok-2 : goal.returns-in-Ok-2
 unfolding shown
-returns-else-at-position c = let a = c.args in
-    rw (ap (shown_if a.format a.kinds a.image.now a.position) c.in-Accepted.is, le-ltb _ _ c.if-at-position.false)
+returns-in-Ok-2 c = let a = c.args in
+    rw (ap (shown_if a.format a.kinds a.image.now a.position) c.in-Ok.is, le-ltb _ _ c.if-position.false)
 
-pub returns-in-Refused : goal.returns-in-Refused
+pub returns-in-Err : goal.returns-in-Err
 unfolding shown
-returns-in-Refused c = let a = c.args in
-    sym (ap (shown_if a.format a.kinds a.image.now a.position) c.in-Refused.is)
+returns-in-Err c = let a = c.args in
+    sym (ap (shown_if a.format a.kinds a.image.now a.position) c.in-Err.is)

@@ -39,32 +39,32 @@ last-shows f k s n w i stands image e =
     ∙ walk-shows f w.image k (steps_due (judged f k s) n) ∙ ap (λ (l : List ℕ). step_numbered f k l (steps_due (judged f k s) n)) image
     ∙ steps-due f k s n
 
-pub loop-i-init : goal.loop-i-init
-loop-i-init c =
+pub loop-step-init : goal.loop-step-init
+loop-step-init c =
     record {
       stands = first-stands _ _ _ _ c.fresh-walk.ensures;
       image = ap (λ (w : Walk). w.image.now) c.fresh-walk.ensures;
       in_range = omega arith;
     }
 
-pub overflow_add-i : goal.overflow_add-i
-overflow_add-i c =
+pub overflow_add-step-end : goal.overflow_add-step-end
+overflow_add-step-end c =
     let a = c.args in
     let octets : Octets a.image.now = λ p. (c.type_inv.image p).fits in
     let due = c.steps_due-due.ensures ∙ ap (λ (w : Walk). steps_due w.position.verdict a.number) c.fresh-walk.ensures in
     omega (arith, due, due-bound a.format a.kinds a.image.now a.number, near a.format a.image.now octets)
 
-pub loop-i-preserved : goal.loop-i-preserved
-loop-i-preserved c =
+pub loop-step-preserved : goal.loop-step-preserved
+loop-step-preserved c =
     record {
-      stands = next-step _ _ _ _ _ c.loop-i.invariant.stands c.step-walk.ensures;
-      image = ap (λ (w : Walk). w.image.now) c.step-walk.ensures ∙ c.loop-i.invariant.image;
+      stands = next-step _ _ _ _ _ c.loop-step.invariant.stands c.step-walk.ensures;
+      image = ap (λ (w : Walk). w.image.now) c.step-walk.ensures ∙ c.loop-step.invariant.image;
       in_range = omega arith;
     }
 
 pub returns : goal.returns
 returns c =
     let a = c.args in
-    let all : c.loop-i.i ≡ c.steps_due-due.result + 1 = omega arith in
+    let all : c.loop-step._step ≡ c.steps_due-due.result + 1 = omega arith in
     let due = c.steps_due-due.ensures ∙ ap (λ (w : Walk). steps_due w.position.verdict a.number) c.fresh-walk.ensures in
-    last-shows a.format a.kinds a.image.now a.number _ _ c.loop-i.invariant.stands c.loop-i.invariant.image (all ∙ ap (λ (n : ℕ). n + 1) due)
+    last-shows a.format a.kinds a.image.now a.number _ _ c.loop-step.invariant.stands c.loop-step.invariant.image (all ∙ ap (λ (n : ℕ). n + 1) due)

@@ -1,7 +1,8 @@
 -- `fields::batched_at` meets its contract: the identity, and the batch. Assumes nothing.
+use Rattle.std.proofs.Common.{rules}
 use Rattle.tiny.specs.Items.{batched_at}
 use Rattle.tiny.proofs.fields.batched_at.Goals as goal
 
 pub returns : goal.returns
 unfolding batched_at
-returns c = rw (c.identity_at.ensures, c.le16_at.ensures)
+returns c = search rules

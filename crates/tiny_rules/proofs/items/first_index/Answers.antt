@@ -1,24 +1,17 @@
--- `items::first_index` meets its contract. The loop's invariant: the first answer from `at` on is the first of all. Assumes nothing.
-use Rattle.std.proofs.Common.{refl, sym, ◌∙◌, arith}
-use Rattle.chain.proofs.laws.Loops.{turn, hit, done}
-use Rattle.octets.specs.Bytes.{byte}
+-- `items::first_index` meets its contract: what the search along the items asks of each is rule 10. Assumes nothing.
+use Rattle.std.proofs.Common.{ℕ, ◌∙◌, ap, rules}
+use Rattle.chain.specs.Chain.{chain}
+use Rattle.chain.specs.First.{first}
+use Rattle.chain.proofs.laws.Along.{goes-on}
 use Rattle.tiny_layout.specs.Layout.{next}
-use Rattle.tiny_layout.proofs.laws.Layout.{head-bounds, next-grows}
+use Rattle.tiny_layout.proofs.laws.Layout.{next-grows}
+use Rattle.tiny_rules.specs.Rules.{on_known, bad_index}
 use Rattle.tiny_rules.proofs.items.first_index.Goals as goal
 
-pub loop-at-init : goal.loop-at-init
-loop-at-init c = refl
-
-pub returns-in-At : goal.returns-in-At
-returns-in-At c = let told = c.in-At.is in
-    told ∙ hit _ _ _ (next-grows c.args.image.now) _ _ (rw c.check_place-end.ensures at c.loop-at-test.true) (sym c.index_at-found.ensures ∙ told) c.loop-at.invariant
-
-pub loop-at-smaller : goal.loop-at-smaller
-loop-at-smaller c = omega (arith, c.item_size.ensures, (head-bounds (byte c.args.image.now c.loop-at.at)).0)
-
-pub loop-at-preserved : goal.loop-at-preserved
-unfolding next
-loop-at-preserved c = turn _ _ _ (next-grows c.args.image.now) _ _ (rw c.check_place-end.ensures at c.loop-at-test.true) (sym c.index_at-found.ensures ∙ c.in_default.is) (rw c.item_size.ensures) c.loop-at.invariant
+pub first_along-requires-clause-grows : goal.first_along-requires-clause-grows
+first_along-requires-clause-grows c = goes-on (next c.args.image.now) (next-grows c.args.image.now) (λ p q h e. search rules)
 
 pub returns : goal.returns
-returns c = done _ _ _ (next-grows c.args.image.now) _ (rw c.check_place-end.ensures at c.loop-at-test.false) c.loop-at.invariant
+returns c = let s = c.args.image.now in let rule = on_known c.args.kinds s (bad_index s c.args.count) in
+    c.first_along.ensures rule (next s) (λ p f h e. search rules) (next-grows s) (λ p q h e. search rules)
+    ∙ ap (λ (end : ℕ). first rule (chain (next s) end 3)) c.check_place.ensures

@@ -1,25 +1,25 @@
 -- `run::measure` meets its contract. The loop's invariant: the number of the first bad item from here on is that of the whole run, and the bytes so far and
 -- those from here on are those of the whole run. Assumes nothing.
-use Rattle.std.proofs.Common.{◌≡◌, ◌+◌, false, length, refl, sym, ◌∙◌, ap, arith}
+use Rattle.std.proofs.Common.{rules, ◌≡◌, ◌+◌, false, length, sym, ◌∙◌, ap, arith, Ok}
 use Rattle.chain.proofs.laws.Number.{number-turn, number-hit, number-done}
 use Rattle.octets.specs.Bytes.{byte}
 use Rattle.tiny_layout.proofs.laws.Layout.{head-bounds}
 use Rattle.tiny_writer.specs.Building.{laid_from, measured, measured_if}
 use Rattle.tiny_writer.specs.Run.{run_next, run_size, bad_item, rule46}
-use Rattle.tiny_writer.specs.declared.run.Measured.TheVariants.{Bytes}
 use Rattle.tiny_writer.proofs.laws.Laid.{laid-end, laid-step, laid-length}
 use Rattle.tiny_writer.proofs.laws.Run.{run-grows, run-some, item-good}
 use Rattle.tiny_writer.proofs.run.measure.Goals as goal
 
 pub loop-at-init : goal.loop-at-init
 unfolding rule46
-loop-at-init c = (refl, omega arith, omega arith, omega arith, omega arith)
+loop-at-init c = search rules
 
 pub returns-then-is_bad : goal.returns-then-is_bad
 unfolding measured
 returns-then-is_bad c = let l = c.loop-at in
     let s = c.args.items.now in
-    ap (measured_if s)
+    c.refused.ensures
+    ∙ ap (measured_if s)
     (number-hit (bad_item s) (run_next s) (length s) (run-grows s) l.number l.at c.loop-at-test.true
     (sym c.is_bad.ensures ∙ c.if-is_bad.true) l.invariant.0)
 
@@ -48,6 +48,6 @@ unfolding measured
 returns c = let l = c.loop-at in
     let s = c.args.items.now in
     let n : l.bytes ≡ length (laid_from s 0) = omega (arith, l.invariant.1, ap length (laid-end s l.at c.loop-at-test.false)) in
-    ap Bytes n
+    ap Ok n
     ∙ ap (measured_if s)
     (number-done (bad_item s) (run_next s) (length s) (run-grows s) l.number l.at c.loop-at-test.false l.invariant.0)

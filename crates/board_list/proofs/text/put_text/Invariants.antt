@@ -1,6 +1,0 @@
--- `text::put_text` meets its contract: it ends. Assumes nothing.
-use Rattle.std.proofs.Common.{◌-◌}
-use Rattle.board_list.proofs.text.put_text.Given as goal
-
-abbrev pub decreases-loop-i : goal.decreases-loop-i
-decreases-loop-i g l = l.n - l.i

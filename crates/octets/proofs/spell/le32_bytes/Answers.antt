@@ -1,8 +1,0 @@
--- `spell::le32_bytes` meets its contract: the bytes are those of the number, by its definition. Assumes nothing.
-use Rattle.std.proofs.Common.{refl}
-use Rattle.octets.specs.Bytes.{spelled}
-use Rattle.octets.proofs.spell.le32_bytes.Goals as goal
-
-pub returns : goal.returns
-unfolding spelled
-returns c = refl
