@@ -7,7 +7,7 @@ ghost use Rattle.std.specs.Prelude.{◌≤◌, length, IfSome};
 
 use choice::{Part, choice, chosen};
 use console::program::with_front;
-use console::show::Spaced;
+use console::put_spaced;
 use console::words::InNumbers;
 use kinds::Kinds;
 use octets::le32_at;
@@ -20,7 +20,9 @@ fn put_choice(out: &impl Print, firmware: &[u8], eeprom: &[u8], kinds: Kinds) ->
         Ok(Part::Eeprom(n)) => println!(out; "eeprom {n}")?,
         Err(refusal) => println!(out; "neither {}", InNumbers(refusal))?,
     }
-    println!(out; "part{}", Spaced(chosen(firmware, eeprom, kinds)))
+    print!(out; "part")?;
+    put_spaced(out, chosen(firmware, eeprom, kinds))?;
+    println!(out)
 }
 
 // An image with its length, four bytes, in front, and what is behind it; none where the length is over what is there.

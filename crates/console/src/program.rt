@@ -2,7 +2,7 @@
 ghost use Rattle.std.specs.Prelude.{ℕ, List, ◌<◌, ◌≤◌, length};
 ghost use Rattle.std.specs.Fn.{FnOnceReturnsAt};
 
-use super::{at_end, read_full};
+use super::{at_end, put, read_full};
 use std::io;
 
 // Hands an image from standard input to `list`. Bytes that the buffer has no room for are not looked at.
@@ -67,7 +67,7 @@ fn serve_lines<S: Fn(&[u8]) -> io::Result<bool>>(
 {
     for line in text.split(|c| *c == b'\n') {
         if !line.is_empty() && !serve(line)? {
-            println!(out; "not a request")?;
+            put(out, b"not a request\n")?;
         }
     }
     Ok(())

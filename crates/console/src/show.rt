@@ -20,19 +20,6 @@ impl fmt::Display for Hex<'_> {
     }
 }
 
-// Bytes, each as a blank and two hexadecimal digits.
-#[derive(Clone, Copy)]
-pub struct Spaced<'a>(pub &'a [u8]);
-
-impl fmt::Display for Spaced<'_> {
-    fn fmt<W: fmt::Write>(&self, f: &mut fmt::Formatter<W>) -> fmt::Result {
-        for b in self.0 {
-            write!(f, " {b:02X}")?;
-        }
-        Ok(())
-    }
-}
-
 // Six bytes with colons between them.
 #[derive(Clone, Copy)]
 pub struct Address(pub [u8; 6]);

@@ -1,5 +1,5 @@
 // What a writer answers, with what its buffer then holds, as a line.
-use super::show::Spaced;
+use super::put_spaced;
 use super::words::InWords;
 use std::io;
 use verdict::Refusal;
@@ -7,7 +7,8 @@ use verdict::Refusal;
 // The bytes of the buffer that no image takes, if there are any; and the end of the line.
 fn put_rest(out: &impl Print, rest: &[u8]) -> io::Result<()> {
     if !rest.is_empty() {
-        print!(out; "; rest{}", Spaced(rest))?;
+        print!(out; "; rest")?;
+        put_spaced(out, rest)?;
     }
     println!(out)
 }
@@ -24,7 +25,7 @@ pub fn put_written(
             let Some((image, rest)) = buffer.split_at_checked(n) else {
                 return Ok(());
             };
-            print!(out; "{}", Spaced(image))?;
+            put_spaced(out, image)?;
             put_rest(out, rest)
         }
         Err(refusal) => {
