@@ -24,7 +24,7 @@ by-parts w m x =
     ∙ sym (shifts-xor (w + m) rest part) ∙ ap (shifts (w + m)) (xor_shifted (x / 2 ^ w) w part (mod-lt x (pow_pos w)) ∙ split x w)
 
 -- r is what the parts of x from q on come to; the part j below them goes by table i
-lookup-turn : {w n : ℕ} {t : List ℕ} → Table w n t → (x i j q m r : ℕ) → q ≡ suc j → w + m ≡ n - w * i → w * i < 64 → r ≡ shifts m (x / 2 ^ (w * q))
+pub lookup-turn : {w n : ℕ} {t : List ℕ} → Table w n t → (x i j q m r : ℕ) → q ≡ suc j → w + m ≡ n - w * i → w * i < 64 → r ≡ shifts m (x / 2 ^ (w * q))
     → bit_xor r (get_or t (2 ^ w * i + x / 2 ^ (w * j) % 2 ^ w) 0) ≡ shifts (n - w * i) (x / 2 ^ (w * j))
 lookup-turn {w} {n} T x i j q m r next more place told =
     let y : ℕ = x / 2 ^ (w * j) in

@@ -1,21 +1,23 @@
 -- At a plain structure the first walk finds nothing: it is counted and that is all. Assumes nothing.
-use Rattle.std.specs.Prelude.{ℕ, ◌+◌, ◌-◌, ◌≤◌, Bool, ◌||◌, List, ◌≡◌, eqb, ltb, None}
+use Rattle.std.specs.Prelude.{ℕ, ◌+◌, ◌-◌, ◌%◌, ◌≤◌, Bool, ◌||◌, List, ◌≡◌, eqb, ltb, None}
 use Rattle.std.proofs.Math.Bool.{true, false, cond}
 use Rattle.std.proofs.lemmas.Bool.{false≢true}
 use Rattle.std.proofs.Common.{inl, inr, sym, ◌∙◌, arith}
-use Rattle.std.proofs.Math.Path.{refl}
-use Rattle.board_layout.specs.Layout.{signature_at, major_at, length_at, shape_at, struct_len, end_at, next}
-use Rattle.board_layout.specs.Shapes.{knows}
+use Rattle.std.proofs.Math.Path.{ap, refl}
+use Rattle.board_layout.specs.Layout.{signature_at, major_at, length_at, shape_at, struct_len, end_at, round16, covers, next}
+use Rattle.board_layout.specs.Shapes.{shape_of, knows}
+use Rattle.board_layout.specs.declared.Head.{Head}
 use Rattle.board_layout.proofs.laws.Shapes.{known-exactly}
-use Rattle.board_rules.specs.Findings.{order_from, Plain, noted}
+use Rattle.board_rules.specs.Findings.{Seen, order_from, Plain, noted}
 use Rattle.board_rules.specs.Rules.{gap_used, out_of_order, is_prom_sig}
 use Rattle.board_rules.specs.declared.walk.Findings.{Findings}
+use Rattle.board_rules.proofs.laws.Findings.{seen-mark, seen-length, seen-shape, seen-finish, seen-after}
 use Rattle.board_rules.proofs.laws.Walk.{fits-clear}
 use Rattle.chain.proofs.laws.Below.{below}
 use Rattle.chain.proofs.laws.First.{or_else-nothing}
 use Rattle.kinds.specs.Signatures.{eeprom, eepr_map, brd_info, prom_sig}
 use Rattle.kinds.specs.declared.Kinds.{Kinds}
-use Rattle.octets.specs.Bytes.{byte}
+use Rattle.octets.specs.Bytes.{Octets, byte}
 use Rattle.octets.specs.Label.{dollar}
 use Rattle.octets.specs.Runs.{nonzero}
 use Rattle.octets.proofs.laws.Runs.{none-nonzero}
@@ -89,6 +91,19 @@ module _ (k : Kinds) (s : List ℕ) (p : ℕ) where
         tight = tight-gap (tight ∙ a);
         unknown = u;
       }
+
+  -- the same of a head that was read there
+  pub seen-plain :
+      {end after : ℕ} {h : Head} → Seen s end p h → Octets s → knows k (shape_of h.signature h.major) ≡ false → h.signature % 256 ≡ 0x24 → 16 ≤ h.length →
+      after ≡ round16 (p + covers h.length) → after ≤ end → p + h.length ≡ after → Plain k s p
+  seen-plain seen octets u mark whole a last tight =
+      plain-here
+      (sym (ap (knows k) (seen-shape seen)) ∙ u)
+      (sym (seen-mark seen octets) ∙ mark)
+      (omega (arith, seen-length seen, whole))
+      (a ∙ seen-after seen)
+      (omega (arith, seen.all, last))
+      (sym (seen-finish seen) ∙ tight)
 
   pub plain-noted :
       Plain k s p → (later : ℕ) (f : Findings) →

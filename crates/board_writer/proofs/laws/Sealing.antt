@@ -20,7 +20,7 @@ held-part block bytes n m room e h =
     ap (λ (j : ℕ). take j block) (sym e) ∙ h.front
 
 -- what a block has at its front, where the header is to be
-front-long : (x : Parts) (block : List ℕ) → length block ≡ 65536 → length (take (header_length x.header) block) ≡ header_length x.header
+pub front-long : (x : Parts) (block : List ℕ) → length block ≡ 65536 → length (take (header_length x.header) block) ≡ header_length x.header
 front-long x block h = length-take-le (header_length x.header) block (omega (arith, h, (header-size x.header).1))
 
 module _ (x : Parts) (n : ℕ) (e : image_length x ≡ n) (fits : n ≤ 65536) where
@@ -40,11 +40,11 @@ module _ (x : Parts) (n : ℕ) (e : image_length x ≡ n) (fits : n ≤ 65536) w
   header-again block two c l d m t h =
       header-laid block two (header_of x.header (image_length x) d m x.version) c l (header-length x.header (image_length x) d m x.version) t h
 
-  module _ (start : List ℕ) {one two : List ℕ} (room : length start ≡ 65536) (h : Holds one (image_length x) (take (header_length x.header) start ++ body x) 65536)
+  module _ (front : List ℕ) {one two : List ℕ} (f : length front ≡ header_length x.header) (h : Holds one (image_length x) (front ++ body x) 65536)
       (t : two ≡ header_of x.header n 0 0 x.version ++ drop (header_length x.header) one) where
     -- without check fields
     pub laid-plain : Holds two (image_length x) (laid x 0 0) 65536
-    laid-plain = header-laid one two (take (header_length x.header) start) 0 0 (front-long x start room) t h
+    laid-plain = header-laid one two front 0 0 f t h
 
     module _ {covers : ℕ} (c : covers ≡ covered (take n two)) where
       pub covers-is : covers ≡ crc_length x

@@ -88,10 +88,10 @@ module _ (k : Kinds) (s : List ℕ) (n : ℕ) where
       go (Err r) = tt
 
   -- so an answer that is the defined one shows these texts
-  item-told : (r : ItemAnswer) → r ≡ item_numbered k s n → (r ≡ item_numbered k s n) × ShowsTexts k s r
+  pub item-told : (r : ItemAnswer) → r ≡ item_numbered k s n → (r ≡ item_numbered k s n) × ShowsTexts k s r
   item-told r e = (e, subst (ShowsTexts k s) (sym e) item-texts)
 
-  string-told : (r : StringAnswer) → r ≡ string_numbered k s n → (r ≡ string_numbered k s n) × (string_said s r ≡ text_numbered k s n)
+  pub string-told : (r : StringAnswer) → r ≡ string_numbered k s n → (r ≡ string_numbered k s n) × (string_said s r ≡ text_numbered k s n)
   string-told r e = (e, ap (string_said s) e ∙ string-shown)
 
   -- the answer on an image that is refused, and on an accepted one by what is found of the number
